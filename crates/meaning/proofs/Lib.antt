@@ -1,0 +1,3 @@
+-- Demand 2, proved of the definitions.
+pub mod Keeps
+pub mod Members
