@@ -75,14 +75,14 @@ unfoldable pub cutOff : ℕ → Parsed → Parsed
 cutOff m (Parsed.tokens ts) = Parsed.malformed m
 cutOff m (Parsed.malformed p) = Parsed.malformed p
 
-unfoldable pub judgeWithin : ℕ → Bytes → Parsed
+unfoldable pub checkWithin : ℕ → Bytes → Parsed
 unfolding parse cutOff
-judgeWithin m t = elim (leb (length t) m) [ true ↦ parse t | false ↦ cutOff m (parse (take m t)) ]
+checkWithin m t = elim (leb (length t) m) [ true ↦ parse t | false ↦ cutOff m (parse (take m t)) ]
 
 -- With the house ceiling.
-unfoldable pub judge : Bytes → Parsed
-unfolding judgeWithin
-judge p = judgeWithin maxPointer p
+unfoldable pub checkPointer : Bytes → Parsed
+unfolding checkWithin
+checkPointer p = checkWithin maxPointer p
 
 -- What the rules give, the function finds.
 split-complete : {n : ℕ} {i : Bytes} {us : Units} {ts : List Token} → TokenRest (from n i) us ts → split i n ≡ Split.good us ts
@@ -322,8 +322,8 @@ within-cut {m} {t} h (Ruled.tokens {ts = ts} x) =
     (subst (Longest Begins (take m t)) (let z : length (take m t) ≡ m = omega (arith, length-take m t) in z) (longest-whole Begins (take m t) (begins-whole (take m t) ts x)))
 within-cut h (Ruled.malformed f l) = Within.malformed (λ ts l _. absurd (omega arith)) l
 
-within : (m : ℕ) (t : Bytes) → Within m t (judgeWithin m t)
-unfolding judgeWithin
+within : (m : ℕ) (t : Bytes) → Within m t (checkWithin m t)
+unfolding checkWithin
 within m t = by (leb (length t) m) refl
   where
     by : (x : Bool) → leb (length t) m ≡ x → Within m t (elim x as (λ _. Parsed) [ true ↦ parse t | false ↦ cutOff m (parse (take m t)) ])
@@ -331,20 +331,20 @@ within m t = by (leb (length t) m) refl
     by false e = within-cut (leb-false (length t) m e) (ruled (take m t))
 
 -- Any bytes are a pointer or malformed, and the function says which.
-pub data Judged (p : Bytes) : Parsed → Type 0 where
-  pointer : {ts : List Token} → Pointer p ts → Judged p (Parsed.tokens ts)
-  malformed : {n : ℕ} → Malformed p n → Judged p (Parsed.malformed n)
+pub data PointerCheck (p : Bytes) : Parsed → Type 0 where
+  pointer : {ts : List Token} → Pointer p ts → PointerCheck p (Parsed.tokens ts)
+  malformed : {n : ℕ} → Malformed p n → PointerCheck p (Parsed.malformed n)
 
-judged-within : {p : Bytes} {x : Parsed} → Within maxPointer p x → Judged p x
-judged-within (Within.tokens l x) = Judged.pointer (Pointer.pointer l x)
-judged-within {p} (Within.malformed f l) = Judged.malformed (Malformed.malformed by l)
+checked-within : {p : Bytes} {x : Parsed} → Within maxPointer p x → PointerCheck p x
+checked-within (Within.tokens l x) = PointerCheck.pointer (Pointer.pointer l x)
+checked-within {p} (Within.malformed f l) = PointerCheck.malformed (Malformed.malformed by l)
   where
     by : (ts : List Token) → ¬ (Pointer p ts)
     by ts (Pointer.pointer h x) = f ts h x
 
-pub judged : (p : Bytes) → Judged p (judge p)
-unfolding judge
-judged p = judged-within (within maxPointer p)
+pub pointer-checked : (p : Bytes) → PointerCheck p (checkPointer p)
+unfolding checkPointer
+pointer-checked p = checked-within (within maxPointer p)
 
 -- Never both, and at one place only.
 pub malformed-not : {p : Bytes} {ts : List Token} {n : ℕ} → Pointer p ts → Malformed p n → ⊥
@@ -352,3 +352,18 @@ malformed-not {ts = ts} x (Malformed.malformed f l) = f ts x
 
 pub malformed-one : {p : Bytes} {m n : ℕ} → Malformed p m → Malformed p n → m ≡ n
 malformed-one {p} (Malformed.malformed f l) (Malformed.malformed f′ l′) = longest-one Begins (take maxPointer p) l l′
+
+-- So the function gives what fits, and only that.
+pub check-pointer : {p : Bytes} {ts : List Token} → Pointer p ts → checkPointer p ≡ Parsed.tokens ts
+check-pointer {p} {ts} x = by (pointer-checked p)
+  where
+    by : {j : Parsed} → PointerCheck p j → j ≡ Parsed.tokens ts
+    by (PointerCheck.pointer y) = ap Parsed.tokens (pointer-one y x)
+    by (PointerCheck.malformed y) = absurd (malformed-not x y)
+
+pub check-malformed : {p : Bytes} {n : ℕ} → Malformed p n → checkPointer p ≡ Parsed.malformed n
+check-malformed {p} {n} x = by (pointer-checked p)
+  where
+    by : {j : Parsed} → PointerCheck p j → j ≡ Parsed.malformed n
+    by (PointerCheck.pointer y) = absurd (malformed-not y x)
+    by (PointerCheck.malformed y) = ap Parsed.malformed (malformed-one y x)

@@ -1,0 +1,3 @@
+-- Each entry has one outcome, and the demands in terms of the entries.
+pub mod Readings
+pub mod Outcomes

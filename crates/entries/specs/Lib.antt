@@ -1,0 +1,3 @@
+-- What each public entry promises.
+pub mod Answer
+pub mod Entries

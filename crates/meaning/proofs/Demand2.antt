@@ -1,0 +1,112 @@
+-- Demand 2: canonical texts agree exactly where meanings do, and read back to the meaning they were written for.
+use Prim.Native.Nat.{_*_, _+_, _≤_, max, ℕ}
+use Rattle.meaning.proofs.Depth.{depth, depth-merge, keeps-depth}
+use Rattle.meaning.proofs.Keeps.{Keeps}
+use Rattle.meaning.proofs.Length.{put-length, text-length, width, widthAll, widthPairs}
+use Rattle.meaning.proofs.Merging.{keeps-merge, merge-same}
+use Rattle.meaning.proofs.Order.{before}
+use Rattle.meaning.proofs.Reading.{text-keeps}
+use Rattle.meaning.proofs.RoundTrip.{put-text}
+use Rattle.meaning.proofs.Sorting.{canon, canonAll, canonPairs, insert, keeps-canon, mean-canon, sorted-canon, sorted-one}
+use Rattle.meaning.specs.Canonical.{Canonical, put}
+use Rattle.meaning.specs.Meaning.{Meaning, Pairs, Tree, Trees, mean, meaning, tree}
+use Rattle.meaning.specs.Merge.{merge}
+use Rattle.text.proofs.Demand3.{one-meaning}
+use Rattle.text.specs.Bytes.{Bytes, Units}
+use Rattle.text.specs.Ceilings.{house, maxDepth}
+use Rattle.text.specs.Grammar.{Text}
+use Rattle.text.specs.Node.{Node}
+use lib.ListN.{length}
+use mathlib.Core.Bool.{Bool, false, true}
+use mathlib.Core.List.{[]}
+use mathlib.Core.Logic.{_↔_}
+use mathlib.Core.Path.{_∙_, _≡_, ap, refl, subst, subst⁻¹, sym}
+use native.Mathlib.Omega.{arith}
+
+-- A tree within the ceilings has a canonical text, and a meaning has one only.
+pub canonical-of : {d : ℕ} {t : Tree} → Keeps d t → Canonical (mean t) (put (canon t) [])
+canonical-of {t = t} k = Canonical.canonical (canon t) (sorted-canon k) (mean-canon k) refl
+
+pub canonical-one : {m : Meaning} {c d : Bytes} → Canonical m c → Canonical m d → c ≡ d
+canonical-one (Canonical.canonical s x e p) (Canonical.canonical t y f q) = sym p ∙ ap (λ t. put t []) (sorted-one x y (e ∙ sym f)) ∙ q
+
+-- It is a text of the grammar within all ceilings, and means what it was written for.
+pub canonical-back : {t : Tree} {c : Bytes} → Keeps 0 t → Canonical (mean t) c → (w : Node) × Text house c w × (meaning w ≡ mean t)
+canonical-back {t} k x =
+    let (w, y, e) = put-text (keeps-canon k) in
+    (w, subst (λ i. Text house i w) (canonical-one (canonical-of k) x) y, ap mean e ∙ mean-canon k)
+
+-- Demand 2 of an accepted text: it has a canonical text, ...
+pub text-canonical : {t : Bytes} {v : Node} → Text house t v → (c : Bytes) × Canonical (meaning v) c
+text-canonical {v = v} x = (put (canon (tree v)) [], canonical-of (text-keeps x))
+
+-- ... which reads back to the same meaning ...
+pub text-back : {t c : Bytes} {v : Node} → Text house t v → Canonical (meaning v) c → (w : Node) × Text house c w × (meaning w ≡ meaning v)
+text-back x y = canonical-back (text-keeps x) y
+
+-- ... and is its own canonical text.
+pub settled : {t c : Bytes} {v w : Node} → Text house t v → Canonical (meaning v) c → Text house c w → Canonical (meaning w) c
+settled {c = c} x y z = let (u, z′, e) = text-back x y in subst⁻¹ (λ m. Canonical m c) (ap meaning (one-meaning c z z′) ∙ e) y
+
+-- Demand 2 of two accepted texts: the same canonical bytes exactly when they mean the same.
+pub demand-2 : {s t c d : Bytes} {v w : Node} → Text house s v → Text house t w → Canonical (meaning v) c → Canonical (meaning w) d → (c ≡ d) ↔ (meaning v ≡ meaning w)
+demand-2 {c = c} {d = d} {v = v} {w = w} x y p q = (
+  (λ e.
+      let (v′, x′, f) = text-back x p in
+      let (w′, y′, h) = text-back y q in
+      sym f ∙ ap meaning (one-meaning d (subst (λ i. Text house i v′) e x′) y′) ∙ h),
+  (λ e. canonical-one (subst (λ m. Canonical m c) e p) q),
+)
+
+-- Sorting keeps the room that a tree needs, so a canonical text is at most six times as long as its source.
+insert-width : (k : Units) (t : Tree) (ps : Pairs) → widthPairs (insert k t ps) ≡ widthPairs (Pairs.pair k t ps)
+unfolding insert width
+insert-width k t Pairs.empty = refl
+insert-width k t (Pairs.pair j s ps) = by (before k j) (insert-width k t ps)
+  where
+    by : (b : Bool) → widthPairs (insert k t ps) ≡ widthPairs (Pairs.pair k t ps)
+        → widthPairs (elim b as (λ _. Pairs) [ true ↦ Pairs.pair k t (Pairs.pair j s ps) | false ↦ Pairs.pair j s (insert k t ps) ]) ≡ widthPairs (Pairs.pair k t (Pairs.pair j s ps))
+    by true h = refl
+    by false h = omega arith
+
+mutual
+  unfolding canon width
+
+  canon-width : (t : Tree) → width (canon t) ≡ width t
+  canon-width (Tree.literal w) = refl
+  canon-width (Tree.string us) = refl
+  canon-width (Tree.number x) = refl
+  canon-width (Tree.array ts) = ap (λ n. 2 + n) (canonAll-width ts)
+  canon-width (Tree.object ps) = ap (λ n. 2 + n) (canonPairs-width ps)
+
+  canonAll-width : (ts : Trees) → widthAll (canonAll ts) ≡ widthAll ts
+  canonAll-width Trees.nil = refl
+  canonAll-width (Trees.cons t ts) = omega (arith, canon-width t, canonAll-width ts)
+
+  canonPairs-width : (ps : Pairs) → widthPairs (canonPairs ps) ≡ widthPairs ps
+  canonPairs-width Pairs.empty = refl
+  canonPairs-width (Pairs.pair k t ps) = omega (arith, insert-width k (canon t) (canonPairs ps), canon-width t, canonPairs-width ps)
+
+pub six-times : {t c : Bytes} {v : Node} → Text house t v → Canonical (meaning v) c → length c ≤ 6 * length t
+six-times {c = c} {v = v} x y =
+    let e : length (put (canon (tree v)) []) ≡ length c = ap (λ z. length z) (canonical-one (canonical-of (text-keeps x)) y) in
+    omega (arith, e, put-length (canon (tree v)) [], canon-width (tree v), text-length x)
+
+-- The merge of two accepted texts keeps to the ceilings, its depth to the deeper one's; so it has a canonical text,
+-- which reads back to it; and it depends on what the two mean alone.
+module _ {s t : Bytes} {v u : Node} (x : Text house s v) (y : Text house t u) where
+  pub merge-keeps : Keeps 0 (merge (tree v) (tree u))
+  merge-keeps = keeps-merge (text-keeps y) (text-keeps x)
+
+  pub merge-depth : (depth (merge (tree v) (tree u)) ≤ max (depth (tree v)) (depth (tree u))) × (depth (merge (tree v) (tree u)) ≤ maxDepth)
+  merge-depth = (depth-merge (tree v) (tree u), let h : 0 + depth (merge (tree v) (tree u)) ≤ maxDepth = keeps-depth (omega arith) merge-keeps in omega (arith, h))
+
+  pub merge-canonical : (c : Bytes) × Canonical (mean (merge (tree v) (tree u))) c
+  merge-canonical = (put (canon (merge (tree v) (tree u))) [], canonical-of merge-keeps)
+
+  pub merge-back : {c : Bytes} → Canonical (mean (merge (tree v) (tree u))) c → (w : Node) × Text house c w × (meaning w ≡ mean (merge (tree v) (tree u)))
+  merge-back z = canonical-back merge-keeps z
+
+  pub merge-respects : {s′ t′ : Bytes} {v′ u′ : Node} → Text house s′ v′ → Text house t′ u′ → meaning v ≡ meaning v′ → meaning u ≡ meaning u′
+      → mean (merge (tree v) (tree u)) ≡ mean (merge (tree v′) (tree u′))
+  merge-respects {v′ = v′} x′ y′ e f = merge-same (tree v) (tree v′) (text-keeps y) (text-keeps y′) e f
