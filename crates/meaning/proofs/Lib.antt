@@ -14,4 +14,6 @@ pub mod Depth
 pub mod Nulls
 pub mod Honest
 pub mod Pointers
+pub mod Lookups
 pub mod Demand2
+pub mod Edges

@@ -5,7 +5,7 @@ use Rattle.meaning.proofs.Digits.{count-is}
 use Rattle.meaning.proofs.Keeps.{Normal}
 use Rattle.meaning.specs.Canonical.{putDigits, putNumber, putPower, putSign}
 use Rattle.text.proofs.Decimals.{strip-none, zeros-none}
-use Rattle.text.proofs.Tests.{and-left, and-right, both, or-right}
+use Rattle.text.proofs.Tests.{and-left, and-right, both, le-both, or-right}
 use Rattle.text.specs.Bytes.{Bytes, countFrom, from, isDigit, isNonzero, valueFrom}
 use Rattle.text.specs.Ceilings.{house, inRange, maxDigits, maxPower, maxPowerDigits, same}
 use Rattle.text.specs.Decimal.{Decimal, normal, scaled, zeros}
@@ -35,10 +35,10 @@ record Written (n c : ℕ) (i o ds : Bytes) : Type 0 where
 
 -- The digit of a number below ten.
 digit-of : (n : ℕ) → n < 10 → T (isDigit (code "0" + n))
-digit-of n l = both (leb (code "0") (code "0" + n)) (leb (code "0" + n) (code "9")) (le→leb (code "0") (code "0" + n) (omega arith)) (le→leb (code "0" + n) (code "9") (omega arith))
+digit-of n l = le-both (code "0") (code "0" + n) (code "0" + n) (code "9") (omega arith) (omega arith)
 
 nonzero-of : (n : ℕ) → n < 10 → 0 < n → T (isNonzero (code "0" + n))
-nonzero-of n l h = both (leb (code "1") (code "0" + n)) (leb (code "0" + n) (code "9")) (le→leb (code "1") (code "0" + n) (omega arith)) (le→leb (code "0" + n) (code "9") (omega arith))
+nonzero-of n l h = le-both (code "1") (code "0" + n) (code "0" + n) (code "9") (omega arith) (omega arith)
 
 nonzero-digit : (b : ℕ) → T (isNonzero b) → T (isDigit b)
 nonzero-digit b t =
@@ -98,9 +98,9 @@ normal-allowed c n down e k a h b d =
   where
     by : (down : Bool) → T (inRange 0 0 down e)
     by true =
-        both (leb (e + 0) (maxPower + 0)) (leb 0 (maxPower + (e + 0))) (le→leb (e + 0) (maxPower + 0) (omega arith)) (le→leb 0 (maxPower + (e + 0)) (omega arith))
+        le-both (e + 0) (maxPower + 0) 0 (maxPower + (e + 0)) (omega arith) (omega arith)
     by false =
-        both (leb 0 (maxPower + (e + 0))) (leb (e + 0) (maxPower + 0)) (le→leb 0 (maxPower + (e + 0)) (omega arith)) (le→leb (e + 0) (maxPower + 0) (omega arith))
+        le-both 0 (maxPower + (e + 0)) (e + 0) (maxPower + 0) (omega arith) (omega arith)
 
 -- The parts of a number: its sign, its digits, and its exponent behind its own sign.
 minus-back : (neg : Bool) (p : ℕ) (o : Bytes) → (q : ℕ) × Minus (from p (putSign neg o)) (from q o) neg

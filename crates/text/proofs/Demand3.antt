@@ -3,12 +3,13 @@
 use Prim.Native.Nat.{_+_, _<_, _≤_, suc, ℕ}
 use Rattle.text.proofs.Limits.{Limits, house-limits, roomy-without, wider}
 use Rattle.text.proofs.Longest.{cut-at, longest-at, longest-whole, take-next}
-use Rattle.text.proofs.Machine.{Move, State, move}
+use Rattle.text.proofs.Machine.{Move, State, afterMove, closeMove, depthOf, hexState, memberMove, move, namesOf, numberMove, onto, ontoMembers, ontoNodes, otherMove, valueMove, wordState}
 use Rattle.text.proofs.Run.{Fault, Judged, Run, Took, fault-one, judge, run, took-fault, took-one}
 use Rattle.text.proofs.Tests.{neither, or-right}
 use Rattle.text.proofs.Way.{Went, accepts, go-on, not-viable, sound, start, text-follows, viable, viable-by}
 use Rattle.text.specs.Bytes.{Bytes}
-use Rattle.text.specs.Ceilings.{Ceilings, Gate, house, numberOf, same, without}
+use Rattle.text.specs.Ceilings.{Ceilings, Gate, among, house, inRange, numberOf, same, without}
+use Rattle.text.specs.Decimal.{normal, scaled, strip, zeros}
 use Rattle.text.specs.Grammar.{Text}
 use Rattle.text.specs.Node.{Node}
 use Rattle.text.specs.Verdict.{Longest, Outcome, Verdict, Viable}
@@ -167,8 +168,9 @@ module _ (B : Ceilings) (limits : Limits B) where
   only-run {t} ρ (Verdict.wrong {P = P} l most f) = let (b, e, n, s) = stops-at P ρ l most in only-wrong t e n s f
   only-run {t} ρ (Verdict.over {P = P} {i = i} l most v) = let (b, e, n, s) = stops-at P ρ l most in only-over t i e n s v
 
--- The outcome as a function.
+-- The outcome as a function. Whoever unfolds it can compute with all that it is made of.
 unfoldable pub read : Ceilings → Bytes → Outcome
+unfolding run judge move valueMove otherMove afterMove numberMove memberMove closeMove wordState hexState depthOf namesOf onto ontoNodes ontoMembers house without numberOf same among inRange zeros strip scaled normal
 read B t = (run B start 0 t) .0
 
 pub read-right : {B : Ceilings} → Limits B → (t : Bytes) → Verdict B t (read B t)

@@ -15,3 +15,5 @@ pub mod Longest
 pub mod Records
 pub mod Way
 pub mod Demand3
+pub mod Every
+pub mod Edges

@@ -7,7 +7,7 @@ use Rattle.text.proofs.Fitting.{Fits, Fitting, Sane, isNumber}
 use Rattle.text.proofs.Fresh.{Fresh, house-fresh, letters}
 use Rattle.text.proofs.Machine.{Frame, Left, Move, Numeral, Stack, State, Use, afterMove, andDigit, closeMove, hexState, memberMove, move, numberMove, onto, otherMove, valueMove, wordState}
 use Rattle.text.proofs.Run.{Took}
-use Rattle.text.proofs.Tests.{and-left, and-right, both, digit-most, either, or-left, or-right}
+use Rattle.text.proofs.Tests.{and-left, and-right, both, digit-most, either, le-both, or-left, or-right}
 use Rattle.text.specs.Bytes.{Bytes, Units, hexValue, isDigit}
 use Rattle.text.specs.Ceilings.{Ceilings, Gate, house, inRange, maxDigits, maxPower, maxPowerDigits, numberOf, without}
 use Rattle.text.specs.Decimal.{normal, zeros}
@@ -38,10 +38,8 @@ house-short c n f s e k h₁ h₂ h₃ h₄ =
     both (leb k maxPowerDigits) (eqb c 0 || inRange (zeros n c) f s e) (le→leb k maxPowerDigits h₄) (or-right (eqb c 0) (inRange (zeros n c) f s e) (in-range s (zeros-most n c)))
   where
     in-range : (s : Bool) → zeros n c ≤ n → T (inRange (zeros n c) f s e)
-    in-range true z =
-        both (leb (e + f) (maxPower + zeros n c)) (leb (zeros n c) (maxPower + (e + f))) (le→leb (e + f) (maxPower + zeros n c) (omega arith)) (le→leb (zeros n c) (maxPower + (e + f)) (omega arith))
-    in-range false z =
-        both (leb f (maxPower + (e + zeros n c))) (leb (e + zeros n c) (maxPower + f)) (le→leb f (maxPower + (e + zeros n c)) (omega arith)) (le→leb (e + zeros n c) (maxPower + f) (omega arith))
+    in-range true z = le-both (e + f) (maxPower + zeros n c) (zeros n c) (maxPower + (e + f)) (omega arith) (omega arith)
+    in-range false z = le-both f (maxPower + (e + zeros n c)) (e + zeros n c) (maxPower + f) (omega arith) (omega arith)
 
 pub house-limits : Limits house
 unfolding house

@@ -3,7 +3,7 @@ use Prim.Native.Char.{code}
 use Prim.Native.Nat.{_<_, _≤_, suc, zero, ℕ}
 use Rattle.text.specs.Bytes.{isDigit, isE, isHigh, isNonzero, isPlain, isSpace}
 use borrow.Author.Tests.{eqb-false, eqb-true}
-use lib.Dec.{T, T-not, eqb, eqb→eq, leb, leb→le, not-T}
+use lib.Dec.{T, T-not, eqb, eqb→eq, leb, leb→le, le→leb, not-T}
 use mathlib.Core.Bool.{Bool, _&&_, _||_, false, not, true}
 use mathlib.Core.Path.{_≡_, refl, subst, subst⁻¹, sym}
 use native.Mathlib.Omega.{arith}
@@ -25,6 +25,9 @@ and-right false b t = absurd t
 
 pub both : (a b : Bool) → T a → T b → T (a && b)
 both true b t u = u
+
+pub le-both : (a b c d : ℕ) → a ≤ b → c ≤ d → T (leb a b && leb c d)
+le-both a b c d h k = both (leb a b) (leb c d) (le→leb a b h) (le→leb c d k)
 
 pub or-left : (a b : Bool) → T a → T (a || b)
 or-left true b t = tt
