@@ -1,3 +1,5 @@
 -- Each entry has one outcome, and the demands in terms of the entries.
 pub mod Readings
 pub mod Outcomes
+pub mod Promises
+pub mod Examples

@@ -77,15 +77,15 @@ writing c o =
       | false ↦ elim (ltb (length o) (length c)) [ true ↦ (refusal 12 3 (length c), o) | false ↦ (success (length c), over c o) ]
     ]
 
-abbrev pub Wrote : Bytes → Bytes → Answer × Bytes → Type 0
-Wrote c o r = Writing c o (r .0) (r .1)
+abbrev pub WritingGives : Bytes → Bytes → Answer × Bytes → Type 0
+WritingGives c o r = Writing c o (r .0) (r .1)
 
-pub writing-right : (c o : Bytes) → Wrote c o (writing c o)
+pub writing-right : (c o : Bytes) → WritingGives c o (writing c o)
 unfolding writing
 writing-right c o = by (ltb maxText (length c)) (ltb (length o) (length c)) refl refl
   where
     by : (a b : Bool) → ltb maxText (length c) ≡ a → ltb (length o) (length c) ≡ b
-        → Wrote c o (elim a as (λ _. Answer × Bytes) [
+        → WritingGives c o (elim a as (λ _. Answer × Bytes) [
           | true ↦ (refusal 13 3 (length c), o)
           | false ↦ elim b as (λ _. Answer × Bytes) [ true ↦ (refusal 12 3 (length c), o) | false ↦ (success (length c), over c o) ]
         ])
