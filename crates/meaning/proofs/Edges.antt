@@ -7,6 +7,7 @@ use Rattle.meaning.proofs.Pointers.{Parsed, PointerCheck, checkPointer,
 use Rattle.meaning.proofs.Reading.{text-keeps}
 use Rattle.meaning.proofs.Sorting.{canon, insert}
 use Rattle.meaning.specs.Canonical.{Canonical, put}
+use Rattle.meaning.specs.Lookup.{Seen, resolve}
 use Rattle.meaning.specs.Meaning.{mean, meaning, tree}
 use Rattle.meaning.specs.Merge.{merge}
 use Rattle.meaning.specs.Pointer.{Token}
@@ -14,10 +15,12 @@ use Rattle.text.proofs.Demand3.{read, read-right}
 use Rattle.text.proofs.Every.{Every, every}
 use Rattle.text.proofs.Limits.{house-limits}
 use Rattle.text.specs.Bytes.{Bytes, ascii}
-use Rattle.text.specs.Ceilings.{house}
+use Rattle.text.specs.Ceilings.{house, same}
+use Rattle.text.specs.Decimal.{Decimal}
 use Rattle.text.specs.Grammar.{Text}
-use Rattle.text.specs.Node.{Node}
+use Rattle.text.specs.Node.{Members, Node, Nodes}
 use Rattle.text.specs.Verdict.{Outcome, Verdict}
+use mathlib.Core.Bool.{false}
 use mathlib.Core.List.{List, [], _∷_}
 use mathlib.Core.Path.{_≡_, refl, subst}
 use native.Mathlib.Omega.{arith}
@@ -116,3 +119,29 @@ pointers =
 pub pointers-hold : Every (λ e. PointerCheck (e .0) (e .1)) pointers
 unfolding pointers checkPointer
 pointers-hold = every (λ e. PointerCheck (e .0) (e .1)) (λ e. checkPointer (e .0)) (λ e. e .1) (λ e r. subst (PointerCheck (e .0)) r (pointer-checked (e .0))) pointers refl
+
+-- Look-ups in `{"foo":["bar","baz"],"":0}`, as it is read.
+unfoldable pub document : Node
+document =
+    Node.object 0 26
+    (Members.member 1 (ascii "foo") (Node.array 7 20 (Nodes.cons (Node.string 8 13 (ascii "bar")) (Nodes.cons (Node.string 14 19 (ascii "baz")) Nodes.nil)))
+    (Members.member 21 [] (Node.number 24 25 (Decimal.decimal false 0 false 0)) Members.empty))
+
+unfoldable pub lookups : List (List Token × Seen)
+unfolding document
+lookups =
+    ([], Seen.found 0 document)
+    ∷ (Token.token 0 (ascii "foo") ∷ Token.token 4 (ascii "1") ∷ [], Seen.found 3 (Node.string 14 19 (ascii "baz")))
+    ∷ (Token.token 0 [] ∷ [], Seen.found 4 (Node.number 24 25 (Decimal.decimal false 0 false 0)))
+    ∷ (Token.token 0 (ascii "foo") ∷ Token.token 4 (ascii "01") ∷ [], Seen.lost 4)
+    ∷ (Token.token 0 (ascii "foo") ∷ Token.token 4 (ascii "2") ∷ [], Seen.lost 4)
+    ∷ (Token.token 0 (ascii "foo") ∷ Token.token 4 (ascii "-") ∷ [], Seen.lost 4)
+    ∷ (Token.token 0 (ascii "foo") ∷ Token.token 4 [] ∷ [], Seen.lost 4)
+    ∷ (Token.token 0 (ascii "foo") ∷ Token.token 4 (ascii "18446744073709551617") ∷ [], Seen.lost 4)
+    ∷ (Token.token 0 (ascii "fo") ∷ Token.token 3 (ascii "0") ∷ [], Seen.lost 0)
+    ∷ (Token.token 0 [] ∷ Token.token 1 (ascii "0") ∷ [], Seen.lost 1)
+    ∷ []
+
+pub lookups-hold : Every (λ e. resolve (e .0) 0 document ≡ e .1) lookups
+unfolding lookups document resolve same
+lookups-hold = every (λ e. resolve (e .0) 0 document ≡ e .1) (λ e. resolve (e .0) 0 document) (λ e. e .1) (λ e r. r) lookups refl
