@@ -35,26 +35,7 @@ isNullMeaning (Meaning.number x) = false
 isNullMeaning (Meaning.array ms) = false
 isNullMeaning (Meaning.object f) = false
 
-unfoldable pub mergeMeaning : Meaning → Meaning → Meaning
-mergeMeaning m p =
-    (elim p as (λ _. Meaning → Meaning) (λ _. Unit {0}) (λ _. Maybe → Maybe) [
-      | Meaning.literal w ↦ λ m. Meaning.literal w
-      | Meaning.string us ↦ λ m. Meaning.string us
-      | Meaning.number x ↦ λ m. Meaning.number x
-      | Meaning.array ps ↦ λ m. Meaning.array ps
-      | Meaning.object (f → h) ↦ λ m. Meaning.object (λ k. h k (memberOf m k))
-      | Meanings.nil ↦ tt
-      | Meanings.cons p ps ↦ tt
-      | Maybe.none ↦ λ o. o
-      | Maybe.some (p → h) ↦ λ o. elim (isNullMeaning p) [ true ↦ Maybe.none | false ↦ Maybe.some (h (old o)) ]
-    ]) m
-
--- What the patch's member, if there is one, makes of the old member.
-unfoldable pub set : Maybe → Maybe → Maybe
-set o Maybe.none = o
-set o (Maybe.some p) = elim (isNullMeaning p) [ true ↦ Maybe.none | false ↦ Maybe.some (mergeMeaning (old o) p) ]
-
--- The same by the recursion of `mergeMeaning`.
+-- What the patch's member, if there is one, makes of the old member; the recursion goes through the object's function.
 merged : Maybe → Maybe → Maybe
 merged p =
     elim p as (λ _. Meaning → Meaning) (λ _. Unit {0}) (λ _. Maybe → Maybe) [
@@ -69,10 +50,29 @@ merged p =
       | Maybe.some (p → h) ↦ λ o. elim (isNullMeaning p) [ true ↦ Maybe.none | false ↦ Maybe.some (h (old o)) ]
     ]
 
+unfoldable pub mergeMeaning : Meaning → Meaning → Meaning
+unfolding merged memberOf
+mergeMeaning m (Meaning.literal w) = Meaning.literal w
+mergeMeaning m (Meaning.string us) = Meaning.string us
+mergeMeaning m (Meaning.number x) = Meaning.number x
+mergeMeaning m (Meaning.array ps) = Meaning.array ps
+mergeMeaning m (Meaning.object f) = Meaning.object (λ k. merged (f k) (memberOf m k))
+
+-- The same without the recursion in sight.
+unfoldable pub set : Maybe → Maybe → Maybe
+set o Maybe.none = o
+set o (Maybe.some p) = elim (isNullMeaning p) [ true ↦ Maybe.none | false ↦ Maybe.some (mergeMeaning (old o) p) ]
+
 merged-set : (o p : Maybe) → merged p o ≡ set o p
 unfolding merged set mergeMeaning
 merged-set o Maybe.none = refl
-merged-set o (Maybe.some p) = refl
+merged-set o (Maybe.some (Meaning.literal Literal.null)) = refl
+merged-set o (Maybe.some (Meaning.literal Literal.true)) = refl
+merged-set o (Maybe.some (Meaning.literal Literal.false)) = refl
+merged-set o (Maybe.some (Meaning.string us)) = refl
+merged-set o (Maybe.some (Meaning.number x)) = refl
+merged-set o (Maybe.some (Meaning.array ms)) = refl
+merged-set o (Maybe.some (Meaning.object f)) = refl
 
 -- The rule for a patch that is an object.
 pub merge-object : (m : Meaning) (f : Units → Maybe) → mergeMeaning m (Meaning.object f) ≡ Meaning.object (λ k. set (memberOf m k) (f k))
