@@ -1,6 +1,6 @@
 -- The canonical text of a meaning. 01 "Canonical text".
 use Prim.Native.Char.{code}
-use Prim.Native.Nat.{ℕ, zero, suc, _+_, _/_, _%_}
+use Prim.Native.Nat.{ℕ, zero, suc, _+_, _-_, _/_, _%_}
 use Rattle.meaning.specs.Meaning.{Tree, Trees, Pairs, Meaning, mean}
 use Rattle.meaning.specs.Order.{Sorted}
 use Rattle.text.specs.Bytes.{Bytes, Units, ascii}
@@ -17,7 +17,7 @@ abbrev pub isBare : ℕ → Bool
 isBare u = leb 0x20 u && leb u 0x7e && not (eqb u (code "\"")) && not (eqb u (code "\\"))
 
 abbrev pub hexDigit : ℕ → ℕ
-hexDigit n = cond (ltb n 10) (code "0" + n) (87 + n)
+hexDigit n = cond (ltb n 10) (code "0" + n) (code "a" + (n - 10))
 
 -- Each of these is its text in front of `o`.
 unfoldable pub putUnit : ℕ → Bytes → Bytes

@@ -57,7 +57,7 @@ abbrev pub isHex : ℕ → Bool
 isHex b = isDigit b || (leb (code "A") b && leb b (code "F")) || (leb (code "a") b && leb b (code "f"))
 
 abbrev pub hexValue : ℕ → ℕ
-hexValue b = cond (leb b (code "9")) (b - code "0") (cond (leb b (code "F")) (b - 55) (b - 87))
+hexValue b = cond (leb b (code "9")) (b - code "0") (cond (leb b (code "F")) (10 + (b - code "A")) (10 + (b - code "a")))
 
 -- What digits come to behind the number `a`, and how many there are behind `n` others.
 unfoldable pub valueFrom : ℕ → Bytes → ℕ
