@@ -3,7 +3,6 @@ use Prim.Native.Nat.{_*_, _-_, ℕ}
 use Rattle.entries.proofs.Outcomes.{ReaderGives, finder, finder-right, merger, merger-right, partFinder, partFinder-right, reader, reader-right, writer, writer-right}
 use Rattle.entries.specs.Answer.{Answer, refusal, success}
 use Rattle.entries.specs.Entries.{Finder, Merger, PartFinder, Reader, Writer}
-use Rattle.meaning.proofs.Lookups.{end}
 use Rattle.meaning.proofs.Order.{before}
 use Rattle.meaning.proofs.Pointers.{checkPointer}
 use Rattle.meaning.proofs.Sorting.{canon, insert}
@@ -13,7 +12,6 @@ use Rattle.meaning.specs.Meaning.{tree}
 use Rattle.meaning.specs.Merge.{merge}
 use Rattle.text.proofs.Demand3.{read}
 use Rattle.text.proofs.Every.{Every, every}
-use Rattle.text.proofs.Way.{start}
 use Rattle.text.specs.Bytes.{Bytes, ascii}
 use Rattle.text.specs.Table.{Words, recordWords, table}
 use lib.ListN.{drop, length, replicate, take}

@@ -2,4 +2,5 @@
 pub mod Readings
 pub mod Outcomes
 pub mod Promises
+pub mod Slices
 pub mod Examples

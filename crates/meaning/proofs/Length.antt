@@ -2,19 +2,18 @@
 -- length of its text.
 use Prim.Native.Char.{code}
 use Prim.Native.Nat.{_%_, _*_, _+_, _/_, _≤_, ℕ}
-use Rattle.meaning.proofs.NumberLength.{left, number-alone, number-takes}
+use Rattle.meaning.proofs.NumberLength.{number-alone, number-length}
 use Rattle.meaning.specs.Canonical.{hexDigit, isBare, put, putArray, putElements, putNumber, putObject, putRest, putUnit, putUnits, spelling}
 use Rattle.meaning.specs.Meaning.{Pairs, Tree, Trees, pairs, tree, trees}
+use Rattle.text.proofs.Takes.{chars-take, left, word-takes}
 use Rattle.text.specs.Bytes.{Bytes, Source, Units}
 use Rattle.text.specs.Ceilings.{house}
 use Rattle.text.specs.Grammar.{Array, Elements, Member, Named, Object, Rest, Text, Value}
 use Rattle.text.specs.Node.{Members, Node, Nodes}
-use Rattle.text.specs.Strings.{Chars, Escape, Word}
 use lib.Dec.{eqb}
 use lib.ListN.{length, length-append}
 use mathlib.Core.Bool.{Bool, _||_, false, true}
 use mathlib.Core.List.{List, [], _∷_}
-use mathlib.Core.Path.{_≡_}
 use native.Mathlib.Omega.{arith}
 use Rattle.text.specs.Grammar as rule
 
@@ -83,22 +82,6 @@ mutual
   rest-length Pairs.empty o = omega arith
   rest-length (Pairs.pair k t ps) o = omega (arith, units-length k (code "\"" ∷ code ":" ∷ put t (putRest ps o)), put-length t (putRest ps o), rest-length ps o)
 
--- How many bytes a fixed word takes, and that a string's bytes leave six for each of its units.
-word-takes : {ks : Bytes} {i o : Source} → Word ks i o → left i ≡ length ks + left o
-word-takes Word.done = omega arith
-word-takes (Word.byte w) = omega (arith, word-takes w)
-
-mutual
-  chars-take : {i o : Source} {us : Units} → Chars house i o us → 6 * length us + 6 + 6 * left o ≤ 6 * left i
-  chars-take Chars.close = omega arith
-  chars-take (Chars.plain t x) = omega (arith, chars-take x)
-  chars-take (Chars.high t h x) = omega (arith, chars-take x)
-  chars-take (Chars.escape x) = omega (arith, escape-takes x)
-
-  escape-takes : {i o : Source} {us : Units} → Escape house i o us → 6 * length us + 6 + 6 * left o ≤ 6 * left i
-  escape-takes (Escape.short t e x) = omega (arith, chars-take x)
-  escape-takes (Escape.unit s t u v e x) = omega (arith, chars-take x)
-
 -- Six for each byte that was read are enough for that room.
 mutual
   unfolding tree width spelling
@@ -109,7 +92,7 @@ mutual
   value-length (rule.true w) = omega (arith, word-takes w)
   value-length (rule.false w) = omega (arith, word-takes w)
   value-length (rule.string x) = omega (arith, chars-take x)
-  value-length (rule.number x) = number-takes x
+  value-length (rule.number x) = number-length x
   value-length (rule.array t x) = omega (arith, array-takes x)
   value-length (rule.object t x) = omega (arith, object-takes x)
 

@@ -3,7 +3,6 @@ pub mod Keeps
 pub mod Members
 pub mod Order
 pub mod Sorting
-pub mod Digits
 pub mod Reading
 pub mod NumberTrip
 pub mod RoundTrip

@@ -1,9 +1,10 @@
 -- What a pointer finds: it depends on the meaning only, and the number it answers is that of the value's record.
-use Prim.Native.Nat.{_*_, _+_, suc, zero, ℕ}
+use Prim.Native.Nat.{_*_, _+_, _<_, suc, zero, ℕ}
 use Rattle.meaning.specs.Lookup.{Seen, byName, child, isIndex, nth, resolve}
 use Rattle.meaning.specs.Meaning.{Maybe, Meaning, Meanings, at, mean, meaning, means, pairs, tree, trees}
 use Rattle.meaning.specs.Pointer.{Token}
-use Rattle.text.proofs.Records.{records-length}
+use Rattle.text.proofs.Offsets.{Inside, InsideAll, InsideMembers, end, start}
+use Rattle.text.proofs.Records.{records-length, table-length}
 use Rattle.text.specs.Bytes.{Units, valueFrom}
 use Rattle.text.specs.Ceilings.{same}
 use Rattle.text.specs.Node.{Members, Node, Nodes}
@@ -164,22 +165,7 @@ pub resolve-table : (ts : List Token) (v : Node) → HeldSeen (table v) 0 (resol
 unfolding table
 resolve-table ts v = resolve-held ts 0 v unnamed
 
--- The offsets of a value's first byte and of the byte behind its last.
-unfoldable pub start : Node → ℕ
-start (Node.literal p q w) = p
-start (Node.string p q us) = p
-start (Node.number p q x) = p
-start (Node.array p q vs) = p
-start (Node.object p q ms) = p
-
-unfoldable pub end : Node → ℕ
-end (Node.literal p q w) = q
-end (Node.string p q us) = q
-end (Node.number p q x) = q
-end (Node.array p q vs) = q
-end (Node.object p q ms) = q
-
--- They are the first two words of its record, ...
+-- A value's two offsets are the first two words of its record, ...
 first-words : (v : Node) (m k : ℕ) → records v m k ≡ start v ∷ end v ∷ drop 2 (records v m k)
 unfolding records start end
 first-words (Node.literal p q w) m k = refl
@@ -197,3 +183,50 @@ found-span ts v {n} {u} h =
     let rest : Words = start u ∷ end u ∷ (drop 2 (records u q n) ++ post) in
     let word : (j k : ℕ) → k ≡ length pre + j → getD (table v) k 0 ≡ getD rest j 0 = λ j k i. cc (e, first-words u q n, getD-append-add pre rest j 0) in
     (word 0 (recordWords * n) (omega arith), word 1 (suc (recordWords * n)) (omega arith))
+
+-- It is one of the text's records, ...
+pub found-number : (ts : List Token) (v : Node) {n : ℕ} {u : Node} → resolve ts 0 v ≡ Seen.found n u → n < size v
+unfolding HeldSeen
+found-number ts v {n} {u} h =
+    let (q, pre, post, e, l) = subst (HeldSeen (table v) 0) h (resolve-table ts v) in
+    let all : length (table v) ≡ length (pre ++ (records u q n ++ post)) = ap length e in
+    omega (arith, table-length v, length-append pre (records u q n ++ post), length-append (records u q n) post, ap length (first-words u q n))
+
+-- ... and what is found in a value stands inside whatever the value stands inside.
+unfoldable pub InsideSeen : ℕ → Seen → Type 0
+InsideSeen n (Seen.found m v) = Inside n v
+InsideSeen n (Seen.lost p) = Unit {0}
+
+module _ (n : ℕ) where
+  name-inside : (p : ℕ) (us : Units) (m : ℕ) (ms : Members) → InsideMembers n ms → InsideSeen n (byName p us m ms)
+  unfolding byName Inside InsideSeen
+  name-inside p us m Members.empty x = tt
+  name-inside p us m (Members.member q k v ms) (_, x, y) = branches (λ s (_ : Unit {0}). InsideSeen n s) (same us k) x (name-inside p us (m + size v) ms y)
+
+  nth-inside : (p i m : ℕ) (vs : Nodes) → InsideAll n vs → InsideSeen n (nth p i m vs)
+  unfolding nth Inside InsideSeen
+  nth-inside p i m Nodes.nil x = tt
+  nth-inside p zero m (Nodes.cons v vs) (x, _) = x
+  nth-inside p (suc i) m (Nodes.cons v vs) (_, y) = nth-inside p i (m + size v) vs y
+
+  child-inside : (p : ℕ) (us : Units) (m : ℕ) (v : Node) → Inside n v → InsideSeen n (child p us m v)
+  unfolding child Inside InsideSeen
+  child-inside p us m (Node.literal a e w) x = tt
+  child-inside p us m (Node.string a e vs) x = tt
+  child-inside p us m (Node.number a e y) x = tt
+  child-inside p us m (Node.array a e vs) (_, _, x) = branches (λ s (_ : Unit {0}). InsideSeen n s) (isIndex us) (nth-inside p (valueFrom 0 us) (suc m) vs x) tt
+  child-inside p us m (Node.object a e ms) (_, _, x) = name-inside p us (suc m) ms x
+
+  resolve-inside : (ts : List Token) (m : ℕ) (v : Node) → Inside n v → InsideSeen n (resolve ts m v)
+  unfolding resolve InsideSeen
+  resolve-inside [] m v x = x
+  resolve-inside (Token.token p us ∷ ts) m v x = by (child p us m v) (child-inside p us m v x) (λ k w y. resolve-inside ts k w y)
+    where
+      by : (s : Seen) → InsideSeen n s → ((k : ℕ) (w : Node) → Inside n w → InsideSeen n (resolve ts k w))
+          → InsideSeen n (elim s as (λ _. Seen) [ Seen.found k w ↦ resolve ts k w | Seen.lost q ↦ Seen.lost q ])
+      by (Seen.found k w) y f = f k w y
+      by (Seen.lost q) y f = tt
+
+  pub found-inside : (ts : List Token) (v : Node) {k : ℕ} {u : Node} → Inside n v → resolve ts 0 v ≡ Seen.found k u → Inside n u
+  unfolding InsideSeen
+  found-inside ts v x h = subst (InsideSeen n) h (resolve-inside ts 0 v x)

@@ -1,26 +1,23 @@
 -- A number is written in at most six times as many bytes as it was read from.
 use Prim.Native.Char.{code}
 use Prim.Native.Nat.{_%_, _*_, _+_, _-_, _/_, _<_, _^_, _≤_, suc, zero, ℕ}
-use Rattle.meaning.proofs.Digits.{count-is, number-below}
 use Rattle.meaning.specs.Canonical.{putDigits, putNumber, putPower, putSign}
 use Rattle.text.proofs.Decimals.{strip-most}
-use Rattle.text.specs.Bytes.{Bytes, Source, countFrom, from, valueFrom}
+use Rattle.text.proofs.Digits.{number-below}
+use Rattle.text.proofs.Takes.{bit, fraction-takes, left, minus-takes, power-takes, whole-takes}
+use Rattle.text.specs.Bytes.{Bytes, Source, valueFrom}
 use Rattle.text.specs.Ceilings.{house, maxDigits, maxPowerDigits}
 use Rattle.text.specs.Decimal.{Decimal, normal, scaled, strip, zeros}
-use Rattle.text.specs.Numbers.{Digits, Fraction, Minus, Number, Power, Sign, Whole}
+use Rattle.text.specs.Numbers.{Number}
 use borrow.Author.Tests.{ltb-false}
 use lib.Dec.{eqb, leb, ltb}
-use lib.ListN.{length}
+use lib.ListN.{length, length-append}
 use mathlib.Core.Bool.{Bool, cond, false, true}
-use mathlib.Core.List.{[], _∷_}
+use mathlib.Core.List.{[], _++_, _∷_}
 use mathlib.Core.Path.{_≡_, refl}
 use native.Mathlib.Omega.{arith}
 
--- A sign takes a byte if it is minus.
-bit : Bool → ℕ
-bit true = 1
-bit false = 0
-
+-- A sign is written as a byte if it is minus.
 bit-most : (s : Bool) → bit s ≤ 1
 unfolding bit
 bit-most true = omega arith
@@ -131,48 +128,15 @@ normal-length neg c (suc m) f down e l h = by (eqb c 0) down
     by false true = scaled-length neg (strip (suc m) c) (zeros (suc m) c) (e + f) m less
     by false false = scaled-length neg (strip (suc m) c) (e + zeros (suc m) c) f m less
 
--- How many bytes are left.
-abbrev pub left : Source → ℕ
-left (from p i) = length i
-
--- How many bytes each part of a number takes.
-minus-takes : {i o : Source} {neg : Bool} → Minus i o neg → left i ≡ bit neg + left o
-unfolding bit
-minus-takes Minus.none = omega arith
-minus-takes Minus.minus = omega arith
-
-digits-take : {i o : Source} {ds : Bytes} → Digits i o ds → left i ≡ length ds + left o
-digits-take Digits.none = omega arith
-digits-take (Digits.more t d) = omega (arith, digits-take d)
-
-whole-takes : {i o : Source} {ds : Bytes} → Whole i o ds → (left i ≡ length ds + left o) × (1 ≤ length ds)
-whole-takes Whole.zero = omega arith
-whole-takes (Whole.nonzero t d) = omega (arith, digits-take d)
-
-fraction-takes : {i o : Source} {fs : Bytes} → Fraction i o fs → length fs + left o ≤ left i
-fraction-takes Fraction.none = omega arith
-fraction-takes (Fraction.point t d) = omega (arith, digits-take d)
-
-sign-takes : {i o : Source} {down : Bool} → Sign i o down → left o ≤ left i
-sign-takes Sign.none = omega arith
-sign-takes Sign.plus = omega arith
-sign-takes Sign.minus = omega arith
-
-power-takes : {i o : Source} {down : Bool} {es : Bytes} → Power i o down es → left o ≤ left i
-power-takes Power.none = omega arith
-power-takes (Power.mark t s u d) = omega (arith, sign-takes s, digits-take d)
-
 -- Its first digit leaves room for the exponent, and each other byte for itself.
-pub number-takes : {i o : Source} {x : Decimal} → Number house i o x → length (putNumber x []) + 6 * left o ≤ 6 * left i
-number-takes (Number.number {neg = neg} {down = down} {ds = ds} {fs = fs} {es = es} m w f p a) =
-    let (a, b) = whole-takes w in
-    let n : countFrom (countFrom 0 ds) fs ≡ length ds + length fs = omega (arith, count-is 0 ds, count-is (countFrom 0 ds) fs) in
+pub number-length : {i o : Source} {x : Decimal} → Number house i o x → length (putNumber x []) + 6 * left o ≤ 6 * left i
+number-length (Number.number {neg = neg} {down = down} {ds = ds} {fs = fs} {es = es} m w f p a) =
     omega (
       arith,
-      a,
-      b,
       minus-takes m,
+      whole-takes w,
       fraction-takes f,
       power-takes p,
-      normal-length neg (valueFrom (valueFrom 0 ds) fs) (countFrom (countFrom 0 ds) fs) (countFrom 0 fs) down (valueFrom 0 es) (number-below w f) (omega arith),
+      length-append ds fs,
+      normal-length neg (valueFrom 0 (ds ++ fs)) (length (ds ++ fs)) (length fs) down (valueFrom 0 es) (number-below w f) (omega (arith, whole-takes w, length-append ds fs)),
     )

@@ -1,20 +1,19 @@
 -- A number that is written is read back.
 use Prim.Native.Char.{code}
 use Prim.Native.Nat.{_%_, _*_, _+_, _-_, _/_, _<_, _^_, _≤_, suc, zero, ℕ}
-use Rattle.meaning.proofs.Digits.{count-is}
 use Rattle.meaning.proofs.Keeps.{Normal}
 use Rattle.meaning.specs.Canonical.{putDigits, putNumber, putPower, putSign}
 use Rattle.text.proofs.Decimals.{strip-none, zeros-none}
 use Rattle.text.proofs.Tests.{and-left, and-right, both, le-both, or-right}
-use Rattle.text.specs.Bytes.{Bytes, countFrom, from, isDigit, isNonzero, valueFrom}
+use Rattle.text.specs.Bytes.{Bytes, from, isDigit, isNonzero, valueFrom}
 use Rattle.text.specs.Ceilings.{house, inRange, maxDigits, maxPower, maxPowerDigits, same}
 use Rattle.text.specs.Decimal.{Decimal, normal, scaled, zeros}
 use Rattle.text.specs.Numbers.{Allowed, Digits, Fraction, Minus, Number, Power, Sign, Whole}
 use borrow.Author.Tests.{le-leb, lt-leb, ltb-false, ltb-true, ne-eqb}
 use lib.Dec.{T, eqb, leb, leb→le, le→leb, ltb}
-use lib.ListN.{length}
+use lib.ListN.{length, length-append}
 use mathlib.Core.Bool.{Bool, _||_, false, true}
-use mathlib.Core.List.{[], _∷_}
+use mathlib.Core.List.{[], _++_, _∷_, append-nil}
 use mathlib.Core.Path.{_∙_, _≡_, ap, ap₂, refl, subst, subst⁻¹}
 use native.Mathlib.Omega.{arith}
 
@@ -114,13 +113,13 @@ sign-back true p o = (suc p, Sign.minus)
 sign-back false p o = (p, Sign.none)
 
 whole-back : (c : ℕ) → 0 < c → c < 10 ^ maxDigits → (p : ℕ) (o : Bytes)
-    → (q : ℕ) × (ds : Bytes) × Whole (from p (putDigits maxDigits c o)) (from q o) ds × (valueFrom 0 ds ≡ c) × (countFrom 0 ds ≤ maxDigits)
+    → (q : ℕ) × (ds : Bytes) × Whole (from p (putDigits maxDigits c o)) (from q o) ds × (valueFrom 0 ds ≡ c) × (length ds ≤ maxDigits)
 unfolding valueFrom
 whole-back c h l p o =
     let w = written maxDigits c h l o o [] (λ p. (p, Digits.none)) in
     let (q, x) = w .others-read (suc p) in
     let ds : Bytes = w .first ∷ w .others in
-    (q, ds, subst⁻¹ (λ i. Whole (from p i) (from q o) ds) (w .bytes-are) (Whole.nonzero (w .first-nonzero) x), w .value-is, omega (arith, count-is 0 ds, w .count-most))
+    (q, ds, subst⁻¹ (λ i. Whole (from p i) (from q o) ds) (w .bytes-are) (Whole.nonzero (w .first-nonzero) x), w .value-is, omega (arith, w .count-most))
 
 -- An exponent that isn't 0 is written.
 power-some : (down : Bool) (e : ℕ) (o : Bytes) → 0 < e → putPower down e o ≡ code "e" ∷ putSign down (putDigits maxPowerDigits e o)
@@ -128,8 +127,8 @@ unfolding putPower
 power-some down e o l = ap (λ b. elim b as (λ _. Bytes) [ true ↦ o | false ↦ code "e" ∷ putSign down (putDigits maxPowerDigits e o) ]) (ne-eqb e 0 (λ z. omega arith))
 
 power-back : (down : Bool) (e : ℕ) → (T down → 0 < e) → e ≤ maxPower → (p : ℕ) (o : Bytes)
-    → (q : ℕ) × (es : Bytes) × Power (from p (putPower down e o)) (from q o) down es × (valueFrom 0 es ≡ e) × (countFrom 0 es ≤ maxPowerDigits)
-unfolding putPower valueFrom countFrom
+    → (q : ℕ) × (es : Bytes) × Power (from p (putPower down e o)) (from q o) down es × (valueFrom 0 es ≡ e) × (length es ≤ maxPowerDigits)
+unfolding putPower valueFrom
 power-back true zero h l p o = absurd (omega (arith, h tt))
 power-back false zero h l p o = (p, [], Power.none, refl, omega arith)
 power-back down (suc e) h l p o =
@@ -141,25 +140,27 @@ power-back down (suc e) h l p o =
       es,
       subst⁻¹ (λ i. Power (from p i) (from r o) down es) (power-some down (suc e) o (omega arith) ∙ ap (λ i. code "e" ∷ putSign down i) (w .bytes-are)) (Power.mark tt x (nonzero-digit (w .first) (w .first-nonzero)) y),
       w .value-is,
-      omega (arith, count-is 0 es, w .count-most),
+      omega (arith, w .count-most),
     )
 
 decimal-back : (neg : Bool) (c : ℕ) (down : Bool) (e : ℕ) → 0 < c → c < 10 ^ maxDigits → ¬ (c % 10 ≡ 0) → (T down → 0 < e) → e ≤ maxPower
     → (p : ℕ) (o : Bytes) → (q : ℕ) × Number house (from p (putNumber (Decimal.decimal neg c down e) o)) (from q o) (Decimal.decimal neg c down e)
-unfolding putNumber valueFrom countFrom
+unfolding putNumber
 decimal-back neg c down e c0 c9 h e0 e9 p o =
     let (q, m) = minus-back neg p (putDigits maxDigits c (putPower down e o)) in
     let (r, ds, w, dv, dn) = whole-back c c0 c9 q (putPower down e o) in
     let (s, es, x, ev, en) = power-back down e e0 e9 r o in
-    let a : Allowed house (valueFrom 0 ds) (countFrom 0 ds) 0 down (valueFrom 0 es) (countFrom 0 es) =
-    normal-allowed (valueFrom 0 ds) (countFrom 0 ds) down (valueFrom 0 es) (countFrom 0 es) dn (subst⁻¹ (λ c. ¬ (c % 10 ≡ 0)) dv h) (omega arith) en in
-    let same : normal neg (valueFrom 0 ds) (countFrom 0 ds) 0 down (valueFrom 0 es) ≡ Decimal.decimal neg c down e =
-    ap₂ (λ c e. normal neg c (countFrom 0 ds) 0 down e) dv ev ∙ normal-same neg c (countFrom 0 ds) down e h e0 in
+    let dv′ : valueFrom 0 (ds ++ []) ≡ c = ap (valueFrom 0) (append-nil ds) ∙ dv in
+    let dn′ : length (ds ++ []) ≤ maxDigits = omega (arith, dn, length-append ds []) in
+    let a : Allowed house (valueFrom 0 (ds ++ [])) (length (ds ++ [])) 0 down (valueFrom 0 es) (length es) =
+    normal-allowed (valueFrom 0 (ds ++ [])) (length (ds ++ [])) down (valueFrom 0 es) (length es) dn′ (subst⁻¹ (λ c. ¬ (c % 10 ≡ 0)) dv′ h) (omega arith) en in
+    let same : normal neg (valueFrom 0 (ds ++ [])) (length (ds ++ [])) 0 down (valueFrom 0 es) ≡ Decimal.decimal neg c down e =
+    ap₂ (λ c e. normal neg c (length (ds ++ [])) 0 down e) dv′ ev ∙ normal-same neg c (length (ds ++ [])) down e h e0 in
     (s, subst (Number house _ _) same (Number.number m w Fraction.none x a))
 
 -- Zero is written as one digit, and any other number by its parts.
 pub number-back : {x : Decimal} → Normal x → (p : ℕ) (o : Bytes) → (q : ℕ) × Number house (from p (putNumber x o)) (from q o) x
-unfolding putNumber putSign putDigits putPower house countFrom valueFrom normal
+unfolding putNumber putSign putDigits putPower house valueFrom normal
 number-back Normal.zero p o = (suc p, Number.number Minus.none Whole.zero Fraction.none Power.none (Allowed.allowed tt tt))
 number-back (Normal.up {neg = neg} {c = c} {e = e} c0 c9 h e9) p o = decimal-back neg c false e c0 c9 h (λ t. absurd t) e9 p o
 number-back (Normal.down {neg = neg} {c = c} {e = e} c0 c9 h e0 e9) p o = decimal-back neg c true e c0 c9 h (λ t. e0) e9 p o

@@ -1,14 +1,14 @@
 -- A value that was read keeps to the house ceilings.
 use Prim.Native.Char.{code}
 use Prim.Native.Nat.{_%_, _+_, _-_, _<_, _^_, _≤_, ℕ}
-use Rattle.meaning.proofs.Digits.{number-below}
 use Rattle.meaning.proofs.Keeps.{Keeps, KeepsAll, KeepsPairs, Normal, Units16}
 use Rattle.meaning.proofs.Members.{Apart, at-other}
 use Rattle.meaning.specs.Meaning.{Pairs, Tree, at, pairs, tree, trees}
 use Rattle.text.proofs.Decimals.{strip-most, strip-normal}
+use Rattle.text.proofs.Digits.{number-below}
 use Rattle.text.proofs.Names.{among-first, among-later}
 use Rattle.text.proofs.Tests.{and-left, and-right, below, byte-at, digit-most, each, either, plain-most}
-use Rattle.text.specs.Bytes.{Bytes, Source, Units, ascii, countFrom, escapeUnit, hexValue, isDigit, isEscape, isHex, valueFrom}
+use Rattle.text.specs.Bytes.{Bytes, Source, Units, ascii, escapeUnit, hexValue, isDigit, isEscape, isHex, valueFrom}
 use Rattle.text.specs.Ceilings.{Gate, among, house, inRange, maxDepth, maxDigits, maxPower, maxPowerDigits}
 use Rattle.text.specs.Decimal.{Decimal, normal, scaled, strip, zeros}
 use Rattle.text.specs.Grammar.{Array, Elements, Member, Named, Object, Rest, Text, Value}
@@ -17,8 +17,9 @@ use Rattle.text.specs.Numbers.{Allowed, Number}
 use Rattle.text.specs.Strings.{Chars, Escape, Is, hexUnit}
 use borrow.Author.Tests.{eqb-false, leb-false}
 use lib.Dec.{T, T-not, eqb, leb, leb→le, ltb, ltb→lt}
+use lib.ListN.{length}
 use mathlib.Core.Bool.{Bool, _&&_, _||_, cond, false, not, true}
-use mathlib.Core.List.{List, [], _∷_}
+use mathlib.Core.List.{List, [], _++_, _∷_}
 use mathlib.Core.Path.{_∙_, _≡_, refl, subst}
 use native.Mathlib.Nat.{pow-le-pow-right}
 use native.Mathlib.Omega.{arith}
@@ -112,7 +113,7 @@ normal-keeps neg c n f down e k l (Allowed.allowed a b) = by (eqb c 0) refl (and
 
 number-keeps : {i o : Source} {x : Decimal} → Number house i o x → Normal x
 number-keeps (Number.number {neg = neg} {down = down} {ds = ds} {fs = fs} {es = es} m w f p a) =
-    normal-keeps neg (valueFrom (valueFrom 0 ds) fs) (countFrom (countFrom 0 ds) fs) (countFrom 0 fs) down (valueFrom 0 es) (countFrom 0 es) (number-below w f) a
+    normal-keeps neg (valueFrom 0 (ds ++ fs)) (length (ds ++ fs)) (length fs) down (valueFrom 0 es) (length es) (number-below w f) a
 
 depth-keeps : (d : ℕ) → T (house (Gate.depth d)) → d < maxDepth
 unfolding house

@@ -6,7 +6,7 @@ use Rattle.text.proofs.Longest.{cut-at, longest-at, longest-whole, take
 use Rattle.text.proofs.Machine.{Move, State, afterMove, closeMove, depthOf, hexState, memberMove, move, namesOf, numberMove, onto, ontoMembers, ontoNodes, otherMove, valueMove, wordState}
 use Rattle.text.proofs.Run.{Fault, Judged, Run, Took, fault-one, judge, run, took-fault, took-one}
 use Rattle.text.proofs.Tests.{neither, or-right}
-use Rattle.text.proofs.Way.{Went, accepts, go-on, not-viable, sound, start, text-follows, viable, viable-by}
+use Rattle.text.proofs.Way.{Went, accepts, go-on, initial, not-viable, sound, text-follows, viable, viable-by}
 use Rattle.text.specs.Bytes.{Bytes}
 use Rattle.text.specs.Ceilings.{Ceilings, Gate, among, house, inRange, numberOf, same, without}
 use Rattle.text.specs.Decimal.{normal, scaled, strip, zeros}
@@ -91,7 +91,7 @@ viable-cut C p q (w, v, x) = (q ++ w, v, subst (λ t. Text C t v) (append-assoc 
 
 module _ (B : Ceilings) (limits : Limits B) where
   -- The machine's outcome is what the rules say.
-  at-fault : (p : Bytes) (b : ℕ) (q : Bytes) (k : ℕ) {s : State} {j : ℕ} → Went B start 0 p s j → Fault B (move s j b) k → Cause B (move s j b) k
+  at-fault : (p : Bytes) (b : ℕ) (q : Bytes) (k : ℕ) {s : State} {j : ℕ} → Went B initial 0 p s j → Fault B (move s j b) k → Cause B (move s j b) k
       → Verdict B (p ++ (b ∷ q)) (Outcome.refused k (length p))
   at-fault p b q k {s} {j} w f c = by c
     where
@@ -107,7 +107,7 @@ module _ (B : Ceilings) (limits : Limits B) where
       by {k} (Cause.gate s t h) =
           Verdict.over inside longest (subst⁻¹ (Viable (without k B)) (take-next p b q) (viable-by B limits (without k B) (roomy-without k (limits .roomy)) (wider k B) b w t))
 
-  right-run : {t : Bytes} {a : Outcome} → Run B start 0 t a → Split B start 0 t a → Verdict B t a
+  right-run : {t : Bytes} {a : Outcome} → Run B initial 0 t a → Split B initial 0 t a → Verdict B t a
   right-run ρ Split.accepted = Verdict.text (sound B limits ρ)
   right-run {t} ρ (Split.short w e) =
       subst⁻¹ (λ n. Verdict B t (Outcome.refused 3 n)) (e ∙ zero-add (length t))
@@ -120,27 +120,27 @@ module _ (B : Ceilings) (limits : Limits B) where
 
   -- Where the rules place a fault, the machine stops, and the cause tells the number.
   data Stop (p : Bytes) (b : ℕ) (a : Outcome) : Type 0 where
-    stop : {s : State} {j k : ℕ} → Went B start 0 p s j → Cause B (move s j b) k → a ≡ Outcome.refused k (length p) → Stop p b a
+    stop : {s : State} {j k : ℕ} → Went B initial 0 p s j → Cause B (move s j b) k → a ≡ Outcome.refused k (length p) → Stop p b a
 
-  stops : (p : Bytes) (b : ℕ) (q : Bytes) {a : Outcome} → Run B start 0 (p ++ (b ∷ q)) a → Viable B p → ¬ (Viable B (p ++ (b ∷ []))) → Stop p b a
-  stops p b q {a} ρ (w, v, x) nv = by (go-on B limits start 0 p w (text-follows x))
+  stops : (p : Bytes) (b : ℕ) (q : Bytes) {a : Outcome} → Run B initial 0 (p ++ (b ∷ q)) a → Viable B p → ¬ (Viable B (p ++ (b ∷ []))) → Stop p b a
+  stops p b q {a} ρ (w, v, x) nv = by (go-on B limits initial 0 p w (text-follows x))
     where
-      at-s : {s : State} {j : ℕ} → Went B start 0 p s j → Judged B (move s j b) → Stop p b a
+      at-s : {s : State} {j : ℕ} → Went B initial 0 p s j → Judged B (move s j b) → Stop p b a
       at-s g (Judged.took s′ k) = absurd (nv (viable-by B limits B (limits .roomy) (λ g t. t) b g k))
       at-s g (Judged.fault k f) = Stop.stop g (cause f) (run-off b q (length p) (sym (zero-add (length p))) g f ρ)
 
-      by : (s : State) × (j : ℕ) × Went B start 0 p s j → Stop p b a
+      by : (s : State) × (j : ℕ) × Went B initial 0 p s j → Stop p b a
       by (s, j, g) = at-s g (judge B (move s j b))
 
   -- The same at a place inside a text.
-  stops-at : {t : Bytes} (P : ℕ) {a : Outcome} → Run B start 0 t a → P < length t → Longest (Viable B) t P
+  stops-at : {t : Bytes} (P : ℕ) {a : Outcome} → Run B initial 0 t a → P < length t → Longest (Viable B) t P
       → (b : ℕ) × (take (suc P) t ≡ take P t ++ (b ∷ [])) × (length (take P t) ≡ P) × Stop (take P t) b a
   stops-at {t} P {a} ρ l (_, v, most) =
       let (b, q, e, f, n) = cut-at P t l in
       let bad : ¬ (Viable B (take P t ++ (b ∷ []))) = λ v. let h : suc P ≤ P = most (suc P) l (subst⁻¹ (Viable B) f v) in omega arith in
-      (b, f, n, stops (take P t) b q (subst (λ t. Run B start 0 t a) e ρ) v bad)
+      (b, f, n, stops (take P t) b q (subst (λ t. Run B initial 0 t a) e ρ) v bad)
 
-  only-short : {t : Bytes} {a : Outcome} → Run B start 0 t a → Split B start 0 t a → Viable B t → ((v : Node) → ¬ (Text B t v)) → a ≡ Outcome.refused 3 (length t)
+  only-short : {t : Bytes} {a : Outcome} → Run B initial 0 t a → Split B initial 0 t a → Viable B t → ((v : Node) → ¬ (Text B t v)) → a ≡ Outcome.refused 3 (length t)
   only-short ρ (Split.accepted {v = v}) vi nt = absurd (nt v (sound B limits ρ))
   only-short {t} ρ (Split.short w e) vi nt = ap (Outcome.refused 3) (e ∙ zero-add (length t))
   only-short ρ (Split.off p b q w f e) (w′, v, x) nt =
@@ -162,7 +162,7 @@ module _ (B : Ceilings) (limits : Limits B) where
       let hi : ¬ (i < k) = λ u. bad (λ z. omega arith) in
       r ∙ ap₂ Outcome.refused (let z : k ≡ i = omega arith in z) l
 
-  only-run : {t : Bytes} {a c : Outcome} → Run B start 0 t a → Verdict B t c → a ≡ c
+  only-run : {t : Bytes} {a c : Outcome} → Run B initial 0 t a → Verdict B t c → a ≡ c
   only-run ρ (Verdict.text x) = accepts B limits ρ x
   only-run ρ (Verdict.short vi nt) = only-short ρ (split ρ) vi nt
   only-run {t} ρ (Verdict.wrong {P = P} l most f) = let (b, e, n, s) = stops-at P ρ l most in only-wrong t e n s f
@@ -171,15 +171,15 @@ module _ (B : Ceilings) (limits : Limits B) where
 -- The outcome as a function. Whoever unfolds it can compute with all that it is made of.
 unfoldable pub read : Ceilings → Bytes → Outcome
 unfolding run judge move valueMove otherMove afterMove numberMove memberMove closeMove wordState hexState depthOf namesOf onto ontoNodes ontoMembers house without numberOf same among inRange zeros strip scaled normal
-read B t = (run B start 0 t) .0
+read B t = (run B initial 0 t) .0
 
 pub read-right : {B : Ceilings} → Limits B → (t : Bytes) → Verdict B t (read B t)
 unfolding read
-read-right {B} limits t = let ρ = (run B start 0 t) .1 in right-run B limits ρ (split ρ)
+read-right {B} limits t = let ρ = (run B initial 0 t) .1 in right-run B limits ρ (split ρ)
 
 pub read-only : {B : Ceilings} → Limits B → (t : Bytes) {a : Outcome} → Verdict B t a → read B t ≡ a
 unfolding read
-read-only {B} limits t v = only-run B limits ((run B start 0 t) .1) v
+read-only {B} limits t v = only-run B limits ((run B initial 0 t) .1) v
 
 -- Demand 3.
 pub demand-3 : {B : Ceilings} → Limits B → (t : Bytes) (a : Outcome) → (a ≡ read B t) ↔ Verdict B t a
@@ -210,4 +210,4 @@ run-range (Run.off f) = fault-range f
 
 pub number-of-refusal : {t : Bytes} {n P : ℕ} → Verdict house t (Outcome.refused n P) → (3 ≤ n) × (n ≤ 9)
 unfolding read
-number-of-refusal {t} {n} {P} v = run-range (subst (Run house start 0 t) (read-only house-limits t v) ((run house start 0 t) .1))
+number-of-refusal {t} {n} {P} v = run-range (subst (Run house initial 0 t) (read-only house-limits t v) ((run house initial 0 t) .1))

@@ -2,6 +2,7 @@
 pub mod Tests
 pub mod Names
 pub mod Decimals
+pub mod Digits
 pub mod Machine
 pub mod Residual
 pub mod Fitting
@@ -16,4 +17,6 @@ pub mod Records
 pub mod Way
 pub mod Demand3
 pub mod Every
+pub mod Takes
+pub mod Offsets
 pub mod Edges

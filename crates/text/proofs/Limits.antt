@@ -3,9 +3,10 @@
 use Prim.Native.Char.{code}
 use Prim.Native.Nat.{_*_, _+_, _<_, _≤_, suc, ℕ}
 use Rattle.text.proofs.Decimals.{zeros-most}
+use Rattle.text.proofs.Digits.{andDigit}
 use Rattle.text.proofs.Fitting.{Fits, Fitting, Sane, isNumber}
 use Rattle.text.proofs.Fresh.{Fresh, house-fresh, letters}
-use Rattle.text.proofs.Machine.{Frame, Left, Move, Numeral, Stack, State, Use, afterMove, andDigit, closeMove, hexState, memberMove, move, numberMove, onto, otherMove, valueMove, wordState}
+use Rattle.text.proofs.Machine.{Frame, Left, Move, Numeral, Stack, State, Use, afterMove, closeMove, hexState, memberMove, move, numberMove, onto, otherMove, valueMove, wordState}
 use Rattle.text.proofs.Run.{Took}
 use Rattle.text.proofs.Tests.{and-left, and-right, both, digit-most, either, le-both, or-left, or-right}
 use Rattle.text.specs.Bytes.{Bytes, Units, hexValue, isDigit}

@@ -1,13 +1,14 @@
 -- Every state that is met can be completed to a text.
 use Prim.Native.Char.{code}
 use Prim.Native.Nat.{_*_, _+_, suc, ℕ}
+use Rattle.text.proofs.Digits.{andDigit, countFrom}
 use Rattle.text.proofs.Fitting.{Fits, Fitting, isNumber}
 use Rattle.text.proofs.Fresh.{letters}
 use Rattle.text.proofs.Limits.{Roomy, some}
-use Rattle.text.proofs.Machine.{Frame, Left, Numeral, Stack, State, Use, andDigit, hexState, memberMove, move, namesOf, onto, ontoMembers, ontoNodes}
+use Rattle.text.proofs.Machine.{Frame, Left, Numeral, Stack, State, Use, hexState, memberMove, move, namesOf, onto, ontoMembers, ontoNodes}
 use Rattle.text.proofs.Residual.{After, AfterFraction, AfterName, AfterWhole, Closed, Follows, NumeralRest}
 use Rattle.text.proofs.Run.{Took, follows-before}
-use Rattle.text.specs.Bytes.{Bytes, Units, ascii, countFrom, from, hexValue, valueFrom}
+use Rattle.text.specs.Bytes.{Bytes, Units, ascii, from, hexValue, valueFrom}
 use Rattle.text.specs.Ceilings.{Ceilings}
 use Rattle.text.specs.Decimal.{normal}
 use Rattle.text.specs.Grammar.{End, Value}

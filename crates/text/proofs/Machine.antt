@@ -1,7 +1,8 @@
 -- A machine that reads a text byte by byte: what each byte does to what is open. It is a tool of the proofs; what is
 -- promised is said by the grammar, and Demand3 shows that the two agree.
 use Prim.Native.Char.{code}
-use Prim.Native.Nat.{_*_, _+_, _-_, suc, ℕ}
+use Prim.Native.Nat.{_*_, _+_, suc, ℕ}
+use Rattle.text.proofs.Digits.{andDigit}
 use Rattle.text.specs.Bytes.{Bytes, Units, ascii, escapeUnit, hexValue, isDigit, isE, isEscape, isHex, isHigh, isNonzero, isPlain, isSpace}
 use Rattle.text.specs.Ceilings.{Gate}
 use Rattle.text.specs.Decimal.{normal}
@@ -9,10 +10,6 @@ use Rattle.text.specs.Node.{Literal, Members, Node, Nodes}
 use lib.Dec.{eqb, ltb}
 use mathlib.Core.Bool.{Bool, false, true}
 use mathlib.Core.List.{List, [], _∷_}
-
--- One more digit behind `a`.
-abbrev pub andDigit : ℕ → ℕ → ℕ
-andDigit a b = 10 * a + (b - code "0")
 
 -- The names of members, and lists turned onto others: what stands in an open container is kept last first.
 unfoldable pub namesOf : Members → List Units

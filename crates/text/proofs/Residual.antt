@@ -1,17 +1,19 @@
 -- What may still follow in each state of the machine, in the grammar's words: `Follows C s w r` says that in the state
 -- `s` the bytes `w` go on to make the whole text the value `r`.
 use Prim.Native.Nat.{_*_, _+_, suc, ℕ}
-use Rattle.text.proofs.Machine.{Frame, Left, Move, Numeral, Stack, State, Use, andDigit, depthOf, namesOf, onto, ontoMembers, ontoNodes}
-use Rattle.text.specs.Bytes.{Bytes, Source, Units, countFrom, from, hexValue, isDigit, isHex, valueFrom}
+use Rattle.text.proofs.Digits.{andDigit, count-all, count-append, countFrom, value-append}
+use Rattle.text.proofs.Machine.{Frame, Left, Move, Numeral, Stack, State, Use, depthOf, namesOf, onto, ontoMembers, ontoNodes}
+use Rattle.text.specs.Bytes.{Bytes, Source, Units, from, hexValue, isDigit, isHex, valueFrom}
 use Rattle.text.specs.Ceilings.{Ceilings, Gate}
 use Rattle.text.specs.Decimal.{Decimal, normal}
 use Rattle.text.specs.Grammar.{Array, Elements, End, Member, Named, Object, Rest, Value}
 use Rattle.text.specs.Node.{Literal, Members, Node, Nodes}
-use Rattle.text.specs.Numbers.{Allowed, Digits, Fraction, Power, Sign, Whole}
+use Rattle.text.specs.Numbers.{Allowed, Digits, Fraction, Minus, Number, Power, Sign, Whole}
 use Rattle.text.specs.Strings.{Chars, Escape, Is, Word}
 use lib.Dec.{T}
+use lib.ListN.{length}
 use mathlib.Core.Bool.{Bool, not, true}
-use mathlib.Core.List.{[], _∷_}
+use mathlib.Core.List.{[], _++_, _∷_}
 
 -- Behind a value `v` inside the containers `st`.
 pub data After (C : Ceilings) : Stack → Node → Source → Node → Type 0 where
@@ -38,6 +40,20 @@ pub data AfterFraction (C : Ceilings) (neg : Bool) (c n f : ℕ) : Source → So
 
 pub data AfterWhole (C : Ceilings) (neg : Bool) (c n : ℕ) : Source → Source → Decimal → Type 0 where
   fraction : {fs : Bytes} {i m o : Source} {x : Decimal} → Fraction i m fs → AfterFraction C neg (valueFrom c fs) (countFrom n fs) (countFrom 0 fs) m o x → AfterWhole C neg c n i o x
+
+-- A number's rule says of all digits at once what the machine adds up as they come.
+module _ (C : Ceilings) (neg : Bool) (ds : Bytes) {j o : Source} where
+  pub after-whole : {k : Source} {down : Bool} {fs es : Bytes} → Fraction j k fs → Power k o down es
+      → Allowed C (valueFrom 0 (ds ++ fs)) (length (ds ++ fs)) (length fs) down (valueFrom 0 es) (length es)
+      → AfterWhole C neg (valueFrom 0 ds) (countFrom 0 ds) j o (normal neg (valueFrom 0 (ds ++ fs)) (length (ds ++ fs)) (length fs) down (valueFrom 0 es))
+  after-whole {fs = fs} {es = es} f e l =
+      rw (value-append 0 ds fs, ← count-append ds fs, ← count-all fs)
+      (AfterWhole.fraction f (AfterFraction.power e (rw (value-append 0 ds fs, ← count-append ds fs, ← count-all fs, ← count-all es) at l)))
+
+  pub number-of : {h i : Source} {x : Decimal} → Minus h i neg → Whole i j ds → AfterWhole C neg (valueFrom 0 ds) (countFrom 0 ds) j o x → Number C h o x
+  number-of m w (AfterWhole.fraction {fs = fs} f (AfterFraction.power {es = es} e l)) =
+      rw (← value-append 0 ds fs, count-append ds fs, count-all fs)
+      (Number.number m w f e (rw (← value-append 0 ds fs, count-append ds fs, count-all fs, count-all es) at l))
 
 -- The rest of a number.
 pub data NumeralRest (C : Ceilings) : Numeral → Source → Source → Decimal → Type 0 where

@@ -1,11 +1,12 @@
 -- The machine's way through a text: the moves that ceilings let pass or refuse, the run, and what it says of the grammar.
 -- A move that the ceilings let pass, and one that they or the grammar refuse with its number.
 use Prim.Native.Nat.{suc, ℕ}
+use Rattle.text.proofs.Digits.{countFrom}
 use Rattle.text.proofs.Fitting.{Fits, Fitting, Sane, isNumber}
 use Rattle.text.proofs.Machine.{Move, Numeral, State, move}
 use Rattle.text.proofs.Residual.{After, AfterFraction, AfterName, AfterWhole, Follows, NumeralRest, Then}
 use Rattle.text.proofs.Step.{backward, forward}
-use Rattle.text.specs.Bytes.{Bytes, Source, Units, countFrom, from, valueFrom}
+use Rattle.text.specs.Bytes.{Bytes, Source, Units, from, valueFrom}
 use Rattle.text.specs.Ceilings.{Ceilings, Gate, numberOf}
 use Rattle.text.specs.Decimal.{normal}
 use Rattle.text.specs.Grammar.{End, Member, Named, Value}

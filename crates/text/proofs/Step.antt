@@ -2,19 +2,20 @@
 -- state that the machine moves to.
 use Prim.Native.Char.{code}
 use Prim.Native.Nat.{_*_, _+_, _≤_, suc, ℕ}
+use Rattle.text.proofs.Digits.{countFrom}
 use Rattle.text.proofs.Fitting.{Fitting, Sane, isNumber}
 use Rattle.text.proofs.Machine.{Frame, Left, Stack, State, Use, closeMove, depthOf, hexState, memberMove, move, namesOf, onto, ontoMembers, ontoNodes, otherMove, valueMove, wordState}
-use Rattle.text.proofs.Residual.{After, AfterFraction, AfterName, AfterWhole, Closed, Follows, HexRest, NumeralRest, Then}
+use Rattle.text.proofs.Residual.{After, AfterName, Closed, Follows, HexRest, NumeralRest, Then, after-whole, number-of}
 use Rattle.text.proofs.StepNumber.{backward-after, backward-number, forward-after, forward-number}
 use Rattle.text.proofs.Tests.{byte-at, high-least, not-byte, not-space, plain-most, space-not}
-use Rattle.text.specs.Bytes.{Bytes, Source, Units, countFrom, from, hexValue, isHigh, isNonzero, isPlain, valueFrom}
+use Rattle.text.specs.Bytes.{Bytes, Source, Units, from, hexValue, isHigh, isNonzero, isPlain, valueFrom}
 use Rattle.text.specs.Ceilings.{Ceilings}
 use Rattle.text.specs.Grammar.{Member, Value}
 use Rattle.text.specs.Node.{Literal, Members, Node, Nodes}
 use Rattle.text.specs.Numbers.{Minus, Number, Whole}
 use Rattle.text.specs.Strings.{Chars, Escape, Is, Word, hexUnit}
 use lib.Dec.{T, T-not, eqb, eqb-refl, not-T}
-use mathlib.Core.Bool.{not}
+use mathlib.Core.Bool.{false, not, true}
 use mathlib.Core.List.{[], _∷_}
 use mathlib.Core.Path.{_≡_, subst}
 use native.Mathlib.Omega.{arith}
@@ -51,9 +52,9 @@ module _ (C : Ceilings) where
 
   forward-value : (st : Stack) (ι b : ℕ) {w : Bytes} {r v : Node} {o : Source} → Value C (depthOf st) (from ι (b ∷ w)) o v → After C st v o r → Then C (valueMove st ι b) (from (suc ι) w) r
   unfolding valueMove valueFrom countFrom
-  forward-value st ι b (rule.number (Number.number Minus.none (Whole.nonzero p d) f e l)) a = Then.yes p (Then.go (Follows.number (NumeralRest.whole d (AfterWhole.fraction f (AfterFraction.power e l))) a))
-  forward-value st ι b (rule.number (Number.number Minus.none Whole.zero f e l)) a = Then.no tt (Then.no tt (Then.yes tt (Then.go (Follows.number (NumeralRest.zero (AfterWhole.fraction f (AfterFraction.power e l))) a))))
-  forward-value st ι b (rule.number (Number.number Minus.minus x f e l)) a = Then.no tt (Then.yes tt (Then.go (Follows.number (NumeralRest.minus x (AfterWhole.fraction f (AfterFraction.power e l))) a)))
+  forward-value st ι b (rule.number (Number.number Minus.none (Whole.nonzero {ds = ds} p d) f e l)) a = Then.yes p (Then.go (Follows.number (NumeralRest.whole d (after-whole C false (b ∷ ds) f e l)) a))
+  forward-value st ι b (rule.number (Number.number Minus.none Whole.zero f e l)) a = Then.no tt (Then.no tt (Then.yes tt (Then.go (Follows.number (NumeralRest.zero (after-whole C false (code "0" ∷ []) f e l)) a))))
+  forward-value st ι b (rule.number (Number.number {ds = ds} Minus.minus x f e l)) a = Then.no tt (Then.yes tt (Then.go (Follows.number (NumeralRest.minus x (after-whole C true ds f e l)) a)))
   forward-value st ι b (rule.value-space p t) a =
       let q₁ = space-not isNonzero b p tt tt tt tt in let q₂ = space-not (λ b. eqb b (code "-")) b p tt tt tt tt in let q₃ = space-not (λ b. eqb b (code "0")) b p tt tt tt tt in
       Then.no q₁ (Then.no q₂ (Then.no q₃ (forward-other st ι b (rule.value-space p t) a q₁ q₂ q₃)))
@@ -129,9 +130,9 @@ module _ (C : Ceilings) where
 
   backward-value : (st : Stack) (ι b : ℕ) {w : Bytes} {r : Node} → Then C (valueMove st ι b) (from (suc ι) w) r → Follows C (State.value st) (from ι (b ∷ w)) r
   unfolding valueMove valueFrom countFrom
-  backward-value st ι b (Then.yes p (Then.go (Follows.number (NumeralRest.whole d (AfterWhole.fraction f (AfterFraction.power e l))) a))) = Follows.value (rule.number (Number.number Minus.none (Whole.nonzero p d) f e l)) a
-  backward-value st ι b {w} {r} (Then.no _ (Then.yes p (Then.go (Follows.number (NumeralRest.minus x (AfterWhole.fraction f (AfterFraction.power e l))) a)))) = byte-at (code "-") (λ k. Follows C (State.value st) (from ι (k ∷ w)) r) p (Follows.value (rule.number (Number.number Minus.minus x f e l)) a)
-  backward-value st ι b {w} {r} (Then.no _ (Then.no _ (Then.yes p (Then.go (Follows.number (NumeralRest.zero (AfterWhole.fraction f (AfterFraction.power e l))) a))))) = byte-at (code "0") (λ k. Follows C (State.value st) (from ι (k ∷ w)) r) p (Follows.value (rule.number (Number.number Minus.none Whole.zero f e l)) a)
+  backward-value st ι b (Then.yes p (Then.go (Follows.number (NumeralRest.whole {ds = ds} d y) a))) = Follows.value (rule.number (number-of C false (b ∷ ds) Minus.none (Whole.nonzero p d) y)) a
+  backward-value st ι b {w} {r} (Then.no _ (Then.yes p (Then.go (Follows.number (NumeralRest.minus {ds = ds} x y) a)))) = byte-at (code "-") (λ k. Follows C (State.value st) (from ι (k ∷ w)) r) p (Follows.value (rule.number (number-of C true ds Minus.minus x y)) a)
+  backward-value st ι b {w} {r} (Then.no _ (Then.no _ (Then.yes p (Then.go (Follows.number (NumeralRest.zero y) a))))) = byte-at (code "0") (λ k. Follows C (State.value st) (from ι (k ∷ w)) r) p (Follows.value (rule.number (number-of C false (code "0" ∷ []) Minus.none Whole.zero y)) a)
   backward-value st ι b (Then.no _ (Then.no _ (Then.no _ n))) = backward-other st ι b n
 
   backward-word : (ks : Bytes) (κ : ℕ) {w : Bytes} {ι : ℕ} {st : Stack} (v : Literal) {r : Node} → Follows C (wordState ks v κ st ι) (from (suc ι) w) r → (q : ℕ) × (o : Bytes) × Word ks (from (suc ι) w) (from q o) × After C st (Node.literal κ q v) (from q o) r

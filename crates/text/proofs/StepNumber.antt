@@ -1,11 +1,12 @@
 -- One byte inside a number or behind a value, both ways.
 use Prim.Native.Char.{code}
 use Prim.Native.Nat.{_≤_, suc, ℕ}
+use Rattle.text.proofs.Digits.{andDigit, countFrom}
 use Rattle.text.proofs.Fitting.{Fits, Sane}
-use Rattle.text.proofs.Machine.{Frame, Move, Numeral, Stack, State, afterMove, andDigit, depthOf, namesOf, numberMove, onto, ontoMembers, ontoNodes}
+use Rattle.text.proofs.Machine.{Frame, Move, Numeral, Stack, State, afterMove, depthOf, namesOf, numberMove, onto, ontoMembers, ontoNodes}
 use Rattle.text.proofs.Residual.{After, AfterFraction, AfterWhole, Follows, NumeralRest, Then}
 use Rattle.text.proofs.Tests.{byte-at, e-not, space-not}
-use Rattle.text.specs.Bytes.{Bytes, Source, countFrom, from, isDigit, isE, valueFrom}
+use Rattle.text.specs.Bytes.{Bytes, Source, from, isDigit, isE, valueFrom}
 use Rattle.text.specs.Ceilings.{Ceilings, Gate}
 use Rattle.text.specs.Decimal.{Decimal, normal}
 use Rattle.text.specs.Grammar.{End}

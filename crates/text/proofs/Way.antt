@@ -24,8 +24,8 @@ pub follows-text : {C : Ceilings} {t : Bytes} {v : Node} → Follows C (State.va
 unfolding depthOf
 follows-text (Follows.value x (After.top e)) = Text.text x e
 
-abbrev pub start : State
-start = State.value []
+abbrev pub initial : State
+initial = State.value []
 
 -- From a state at an offset over some bytes to another.
 pub data Went (B : Ceilings) : State → ℕ → Bytes → State → ℕ → Type 0 where
@@ -33,7 +33,7 @@ pub data Went (B : Ceilings) : State → ℕ → Bytes → State → ℕ → Typ
   step : {s s′ s″ : State} {n b j : ℕ} {p : Bytes} → Took B (move s n b) s′ → Went B s′ (suc n) p s″ j → Went B s n (b ∷ p) s″ j
 
 module _ (B : Ceilings) (limits : Limits B) where
-  fit-start : Fitting B start
+  fit-start : Fitting B initial
   unfolding isNumber
   fit-start = Fitting.other tt
 
@@ -63,18 +63,18 @@ module _ (B : Ceilings) (limits : Limits B) where
     follows-went (Went.step k q) h = follows-went q (follows-behind C (roomy .sane) (took-wide k) h)
 
     -- A byte that the ceilings refuse there ends all hope, ...
-    pub not-viable : {s : State} {p : Bytes} {j : ℕ} (b : ℕ) {k : ℕ} → Went B start 0 p s j → Fault C (move s j b) k → ¬ (Viable C (p ++ (b ∷ [])))
+    pub not-viable : {s : State} {p : Bytes} {j : ℕ} (b : ℕ) {k : ℕ} → Went B initial 0 p s j → Fault C (move s j b) k → ¬ (Viable C (p ++ (b ∷ [])))
     not-viable {p = p} b q f (w, v, x) =
-        follows-fault C (roomy .sane) f (follows-went q (subst (λ t. Follows C start (from 0 t) v) (append-assoc p (b ∷ []) w) (text-follows x)))
+        follows-fault C (roomy .sane) f (follows-went q (subst (λ t. Follows C initial (from 0 t) v) (append-assoc p (b ∷ []) w) (text-follows x)))
 
     -- ... and one that they let pass leaves some.
-    pub viable-by : {s s′ : State} {p : Bytes} {j : ℕ} (b : ℕ) → Went B start 0 p s j → Took C (move s j b) s′ → Viable C (p ++ (b ∷ []))
+    pub viable-by : {s s′ : State} {p : Bytes} {j : ℕ} (b : ℕ) → Went B initial 0 p s j → Took C (move s j b) s′ → Viable C (p ++ (b ∷ []))
     viable-by {s} {s′} {p} {j} b q k =
         let φ : Fitting B s = went-fit fit-start q in
         let (w, r, h) = live C roomy s′ (suc j) (fit-step C roomy B limits sub s j b φ k) in
-        (w, r, follows-text (subst⁻¹ (λ t. Follows C start (from 0 t) r) (append-assoc p (b ∷ []) w) (went-follows fit-start q (follows-before C (fit-wide C roomy B limits sub φ) k h))))
+        (w, r, follows-text (subst⁻¹ (λ t. Follows C initial (from 0 t) r) (append-assoc p (b ∷ []) w) (went-follows fit-start q (follows-before C (fit-wide C roomy B limits sub φ) k h))))
 
-  pub viable : {s : State} {p : Bytes} {j : ℕ} → Went B start 0 p s j → Viable B p
+  pub viable : {s : State} {p : Bytes} {j : ℕ} → Went B initial 0 p s j → Viable B p
   viable {s} {j = j} q =
       let (w, r, h) = live B (limits .roomy) s j (went-fit fit-start q) in
       (w, r, follows-text (went-follows B (limits .roomy) (λ g t. t) fit-start q h))
@@ -93,9 +93,9 @@ module _ (B : Ceilings) (limits : Limits B) where
   sound-from φ (Run.ends d) = done-follows B φ d
   sound-from {s} φ (Run.on {n = n} {b = b} k ρ) = follows-before B φ k (sound-from (fit-on s n b φ k) ρ)
 
-  pub sound : {t : Bytes} {v : Node} → Run B start 0 t (Outcome.accepted v) → Text B t v
+  pub sound : {t : Bytes} {v : Node} → Run B initial 0 t (Outcome.accepted v) → Text B t v
   sound ρ = follows-text (sound-from fit-start ρ)
 
   -- And every text is accepted.
-  pub accepts : {t : Bytes} {a : Outcome} {v : Node} → Run B start 0 t a → Text B t v → a ≡ Outcome.accepted v
+  pub accepts : {t : Bytes} {a : Outcome} {v : Node} → Run B initial 0 t a → Text B t v → a ≡ Outcome.accepted v
   accepts ρ x = complete B (limits .roomy .sane) ρ (text-follows x)

@@ -1,6 +1,6 @@
 -- Bytes and their classes. 01 "The grammar"; RFC 8259 sections 2, 6 and 7.
 use Prim.Native.Char.{code}
-use Prim.Native.Nat.{ℕ, suc, _+_, _*_, _-_}
+use Prim.Native.Nat.{ℕ, _+_, _*_, _-_}
 use Prim.Native.String.{String}
 use Prim.Native.String as string
 use lib.Dec.{eqb, leb}
@@ -59,11 +59,7 @@ isHex b = isDigit b || (leb (code "A") b && leb b (code "F")) || (leb (code "a")
 abbrev pub hexValue : ℕ → ℕ
 hexValue b = cond (leb b (code "9")) (b - code "0") (cond (leb b (code "F")) (10 + (b - code "A")) (10 + (b - code "a")))
 
--- What digits come to behind the number `a`, and how many there are behind `n` others.
+-- What digits come to behind the number `a`.
 unfoldable pub valueFrom : ℕ → Bytes → ℕ
 valueFrom a [] = a
 valueFrom a (d ∷ ds) = valueFrom (10 * a + (d - code "0")) ds
-
-unfoldable pub countFrom : ℕ → Bytes → ℕ
-countFrom n [] = n
-countFrom n (d ∷ ds) = countFrom (suc n) ds

@@ -4,8 +4,9 @@ use Prim.Native.Char.{code}
 use Prim.Native.Nat.{ℕ, suc}
 use lib.Dec.{T}
 use mathlib.Core.Bool.{Bool, true, false}
-use mathlib.Core.List.{[], _∷_}
-use Rattle.text.specs.Bytes.{Bytes, Source, from, isDigit, isNonzero, isE, valueFrom, countFrom}
+use lib.ListN.{length}
+use mathlib.Core.List.{[], _∷_, _++_}
+use Rattle.text.specs.Bytes.{Bytes, Source, from, isDigit, isNonzero, isE, valueFrom}
 use Rattle.text.specs.Ceilings.{Ceilings, Gate}
 use Rattle.text.specs.Decimal.{Decimal, normal}
 
@@ -45,9 +46,9 @@ pub data Power : Source → Source → Bool → Bytes → Type 0 where
 pub data Allowed (C : Ceilings) (c n f : ℕ) (down : Bool) (e k : ℕ) : Type 0 where
   allowed : T (C (Gate.digits n)) → T (C (Gate.power c n f down e k)) → Allowed C c n f down e k
 
--- `Number C i o x`: the bytes `i` begin with a number that means `x`. The digits `fs` behind the point go on where
--- the digits `ds` before it end.
+-- `Number C i o x`: the bytes `i` begin with a number that means `x`. Its digits are `ds` before the point and `fs`
+-- behind it, and those of its exponent are `es`.
 pub data Number (C : Ceilings) : Source → Source → Decimal → Type 0 where
   number : {h i j k o : Source} {neg down : Bool} {ds fs es : Bytes} → Minus h i neg → Whole i j ds → Fraction j k fs → Power k o down es
-      → Allowed C (valueFrom (valueFrom 0 ds) fs) (countFrom (countFrom 0 ds) fs) (countFrom 0 fs) down (valueFrom 0 es) (countFrom 0 es)
-      → Number C h o (normal neg (valueFrom (valueFrom 0 ds) fs) (countFrom (countFrom 0 ds) fs) (countFrom 0 fs) down (valueFrom 0 es))
+      → Allowed C (valueFrom 0 (ds ++ fs)) (length (ds ++ fs)) (length fs) down (valueFrom 0 es) (length es)
+      → Number C h o (normal neg (valueFrom 0 (ds ++ fs)) (length (ds ++ fs)) (length fs) down (valueFrom 0 es))
