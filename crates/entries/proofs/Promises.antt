@@ -1,8 +1,9 @@
 -- The demands in terms of the entries.
-use Prim.Native.Nat.{_*_, _≤_, ℕ}
-use Rattle.entries.proofs.Readings.{ready-text, stop-number}
-use Rattle.entries.specs.Answer.{Reading, Writing, maxText, over, refusal, success}
-use Rattle.entries.specs.Entries.{Merger, Reader, Writer}
+use Prim.Native.Nat.{_*_, _<_, _≤_, ℕ}
+use Rattle.entries.proofs.Outcomes.{merger-one}
+use Rattle.entries.proofs.Readings.{reading-only, ready-text, stop-number}
+use Rattle.entries.specs.Answer.{Answer, Read, Reading, Writing, maxText, over, refusal, success}
+use Rattle.entries.specs.Entries.{Finder, Merger, Reader, Writer}
 use Rattle.meaning.proofs.Demand2.{canonical-one, demand-2, merge-respects, settled, text-back}
 use Rattle.meaning.specs.Canonical.{Canonical}
 use Rattle.meaning.specs.Meaning.{mean, meaning, tree}
@@ -17,8 +18,46 @@ use Rattle.text.specs.Verdict.{Outcome, Verdict}
 use lib.ListN.{drop, length, replicate, take}
 use lib.Seq.{take-append-seam}
 use mathlib.Core.Logic.{_↔_}
-use mathlib.Core.Path.{_∙_, _≡_, ap, subst, sym}
+use mathlib.Core.Path.{_∙_, _≡_, ap, refl, subst, sym}
 use native.Mathlib.Omega.{arith}
+
+-- Demand 1. A refusal has count 0 and leaves the output as at entry; a text that was accepted keeps its records, and the
+-- patch's table isn't touched when the target is refused.
+reading-count : {k n i p c : ℕ} {t : Bytes} {w w′ : Words} → Reading k t w (Read.stop (Answer.answer n i p c) w′) → c ≡ 0
+reading-count (Reading.long h) = refl
+reading-count (Reading.narrow l m) = refl
+reading-count (Reading.refused l m v) = refl
+
+writing-refused : {n i p k : ℕ} {c o o′ : Bytes} → 0 < n → Writing c o (Answer.answer n i p k) o′ → (k ≡ 0) × (o′ ≡ o)
+writing-refused h (Writing.long l) = (refl, refl)
+writing-refused h (Writing.narrow l m) = (refl, refl)
+writing-refused h (Writing.written l m) = absurd (omega arith)
+
+pub reader-refused : {n i p c : ℕ} {t : Bytes} {w w′ : Words} → 0 < n → Reader t w (Answer.answer n i p c) w′ → c ≡ 0
+reader-refused h (Reader.stop r) = reading-count r
+reader-refused h (Reader.done r) = absurd (omega arith)
+
+pub writer-refused : {n i p c : ℕ} {t o o′ : Bytes} {w w′ : Words} → 0 < n → Writer t w o (Answer.answer n i p c) w′ o′ → (c ≡ 0) × (o′ ≡ o)
+writer-refused h (Writer.stop r) = (reading-count r, refl)
+writer-refused h (Writer.done r x y) = writing-refused h y
+
+pub finder-refused : {n i p c : ℕ} {t q : Bytes} {w w′ : Words} → 0 < n → Finder t w q (Answer.answer n i p c) w′ → c ≡ 0
+finder-refused h (Finder.stop r) = reading-count r
+finder-refused h (Finder.malformed r x) = refl
+finder-refused h (Finder.lost r x e) = refl
+finder-refused h (Finder.found r x e) = absurd (omega arith)
+
+pub merger-refused : {n i p c : ℕ} {t q o o′ : Bytes} {w x w′ x′ : Words} → 0 < n → Merger t w q x o (Answer.answer n i p c) w′ x′ o′ → (c ≡ 0) × (o′ ≡ o)
+merger-refused h (Merger.stop r) = (reading-count r, refl)
+merger-refused h (Merger.stopPatch r s) = (reading-count s, refl)
+merger-refused h (Merger.done r s x y) = writing-refused h y
+
+pub reading-stands : {k : ℕ} {t : Bytes} {w : Words} {v : Node} → length t ≤ maxText → recordWords * length t ≤ length w → Text house t v
+    → {r : Read} → Reading k t w r → r ≡ Read.ready v (over (table v) w)
+reading-stands l m x r = sym (reading-only r) ∙ reading-only (Reading.accepted l m x)
+
+pub patch-untouched : {t q o o′ : Bytes} {w x w′ w″ x′ : Words} {a b : Answer} → Reading 1 t w (Read.stop b w″) → Merger t w q x o a w′ x′ o′ → (x′ ≡ x) × (a ≡ b)
+patch-untouched r s = let (a, _, x, _) = merger-one s (Merger.stop r) in (x, a)
 
 -- Demand 3. For a text of at most 1,048,576 bytes and a table of four words for each byte, the reader accepts exactly
 -- the texts of the grammar within the ceilings, and every other text gets the number and place of its verdict.
