@@ -4,15 +4,15 @@ use Prim.Native.Nat.{_%_, _*_, _+_, _-_, _/_, _<_, _^_, _≤_, suc, zero, ℕ}
 use Rattle.meaning.proofs.Keeps.{Normal}
 use Rattle.meaning.specs.Canonical.{putDigits, putNumber, putPower, putSign}
 use Rattle.text.proofs.Decimals.{strip-none, zeros-none}
-use Rattle.text.proofs.Tests.{and-left, and-right, both, le-both, or-right}
+use Rattle.text.proofs.Tests.{and-left, and-right, both, le-both}
 use Rattle.text.specs.Bytes.{Bytes, from, isDigit, isNonzero, valueFrom}
-use Rattle.text.specs.Ceilings.{house, inRange, maxDigits, maxPower, maxPowerDigits, same}
-use Rattle.text.specs.Decimal.{Decimal, normal, scaled, zeros}
+use Rattle.text.specs.Ceilings.{house, maxDigits, maxPower, maxPowerDigits, same}
+use Rattle.text.specs.Decimal.{Decimal, exponentOf, normal, scaled}
 use Rattle.text.specs.Numbers.{Allowed, Digits, Fraction, Minus, Number, Power, Sign, Whole}
 use borrow.Author.Tests.{le-leb, lt-leb, ltb-false, ltb-true, ne-eqb}
-use lib.Dec.{T, eqb, leb, leb→le, le→leb, ltb}
+use lib.Dec.{T, leb, leb→le, le→leb, ltb}
 use lib.ListN.{length, length-append}
-use mathlib.Core.Bool.{Bool, _||_, false, true}
+use mathlib.Core.Bool.{Bool, false, true}
 use mathlib.Core.List.{[], _++_, _∷_, append-nil}
 use mathlib.Core.Path.{_∙_, _≡_, ap, ap₂, refl, subst, subst⁻¹}
 use native.Mathlib.Omega.{arith}
@@ -89,17 +89,10 @@ normal-same neg c n true e h g =
     rw (ne-eqb c 0 (λ z. h (ap (λ x. x % 10) z)), zeros-none n c h, strip-none n c h, lt-leb (e + 0) 0 (omega (arith, g tt)))
     (ap (Decimal.decimal neg c true) (let z : e + 0 - 0 ≡ e = omega arith in z))
 
-normal-allowed : (c n : ℕ) (down : Bool) (e k : ℕ) → n ≤ maxDigits → ¬ (c % 10 ≡ 0) → e ≤ maxPower → k ≤ maxPowerDigits → Allowed house c n 0 down e k
-unfolding house inRange
-normal-allowed c n down e k a h b d =
-    Allowed.allowed (le→leb n maxDigits a)
-    (both (leb k maxPowerDigits) (eqb c 0 || inRange (zeros n c) 0 down e) (le→leb k maxPowerDigits d) (or-right (eqb c 0) (inRange (zeros n c) 0 down e) (rw (zeros-none n c h) (by down))))
-  where
-    by : (down : Bool) → T (inRange 0 0 down e)
-    by true =
-        le-both (e + 0) (maxPower + 0) 0 (maxPower + (e + 0)) (omega arith) (omega arith)
-    by false =
-        le-both 0 (maxPower + (e + 0)) (e + 0) (maxPower + 0) (omega arith) (omega arith)
+normal-allowed : (c n : ℕ) (down : Bool) (e k : ℕ) → n ≤ maxDigits → ¬ (c % 10 ≡ 0) → (T down → 0 < e) → e ≤ maxPower → k ≤ maxPowerDigits → Allowed house c n 0 down e k
+unfolding house exponentOf
+normal-allowed c n down e k a h g b d =
+    Allowed.allowed (le→leb n maxDigits a) (le-both k maxPowerDigits (exponentOf (normal false c n 0 down e)) maxPower d (rw (normal-same false c n down e h g) b))
 
 -- The parts of a number: its sign, its digits, and its exponent behind its own sign.
 minus-back : (neg : Bool) (p : ℕ) (o : Bytes) → (q : ℕ) × Minus (from p (putSign neg o)) (from q o) neg
@@ -153,14 +146,14 @@ decimal-back neg c down e c0 c9 h e0 e9 p o =
     let dv′ : valueFrom 0 (ds ++ []) ≡ c = ap (valueFrom 0) (append-nil ds) ∙ dv in
     let dn′ : length (ds ++ []) ≤ maxDigits = omega (arith, dn, length-append ds []) in
     let a : Allowed house (valueFrom 0 (ds ++ [])) (length (ds ++ [])) 0 down (valueFrom 0 es) (length es) =
-    normal-allowed (valueFrom 0 (ds ++ [])) (length (ds ++ [])) down (valueFrom 0 es) (length es) dn′ (subst⁻¹ (λ c. ¬ (c % 10 ≡ 0)) dv′ h) (omega arith) en in
+    normal-allowed (valueFrom 0 (ds ++ [])) (length (ds ++ [])) down (valueFrom 0 es) (length es) dn′ (subst⁻¹ (λ c. ¬ (c % 10 ≡ 0)) dv′ h) (λ t. let q : 0 < e = e0 t in omega arith) (omega arith) en in
     let same : normal neg (valueFrom 0 (ds ++ [])) (length (ds ++ [])) 0 down (valueFrom 0 es) ≡ Decimal.decimal neg c down e =
     ap₂ (λ c e. normal neg c (length (ds ++ [])) 0 down e) dv′ ev ∙ normal-same neg c (length (ds ++ [])) down e h e0 in
     (s, subst (Number house _ _) same (Number.number m w Fraction.none x a))
 
 -- Zero is written as one digit, and any other number by its parts.
 pub number-back : {x : Decimal} → Normal x → (p : ℕ) (o : Bytes) → (q : ℕ) × Number house (from p (putNumber x o)) (from q o) x
-unfolding putNumber putSign putDigits putPower house valueFrom normal
+unfolding putNumber putSign putDigits putPower house exponentOf valueFrom normal
 number-back Normal.zero p o = (suc p, Number.number Minus.none Whole.zero Fraction.none Power.none (Allowed.allowed tt tt))
 number-back (Normal.up {neg = neg} {c = c} {e = e} c0 c9 h e9) p o = decimal-back neg c false e c0 c9 h (λ t. absurd t) e9 p o
 number-back (Normal.down {neg = neg} {c = c} {e = e} c0 c9 h e0 e9) p o = decimal-back neg c true e c0 c9 h (λ t. e0) e9 p o

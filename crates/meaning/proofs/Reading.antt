@@ -9,8 +9,8 @@ use Rattle.text.proofs.Digits.{number-below}
 use Rattle.text.proofs.Names.{among-first, among-later}
 use Rattle.text.proofs.Tests.{and-left, and-right, below, byte-at, digit-most, each, either, plain-most}
 use Rattle.text.specs.Bytes.{Bytes, Source, Units, ascii, escapeUnit, hexValue, isDigit, isEscape, isHex, valueFrom}
-use Rattle.text.specs.Ceilings.{Gate, among, house, inRange, maxDepth, maxDigits, maxPower, maxPowerDigits}
-use Rattle.text.specs.Decimal.{Decimal, normal, scaled, strip, zeros}
+use Rattle.text.specs.Ceilings.{Gate, among, house, maxDepth, maxDigits, maxPower, maxPowerDigits}
+use Rattle.text.specs.Decimal.{Decimal, exponentOf, normal, scaled, strip, zeros}
 use Rattle.text.specs.Grammar.{Array, Elements, Member, Named, Object, Rest, Text, Value}
 use Rattle.text.specs.Node.{Members, Node, Nodes}
 use Rattle.text.specs.Numbers.{Allowed, Number}
@@ -74,18 +74,20 @@ mutual
   escape-keeps (Escape.unit {a = a} {b = b} {c = c} {d = d} s t u v Is.is x) =
       Units16.next {u = hexUnit a b c d} (omega (arith, hex-small a s, hex-small b t, hex-small c u, hex-small d v)) (chars-keep x)
 
--- A decimal that stays within the range is normal.
-scaled-keeps : (neg : Bool) (c p m : ℕ) → 0 < c → c < 10 ^ maxDigits → ¬ (c % 10 ≡ 0) → p ≤ maxPower + m → m ≤ maxPower + p → Normal (scaled neg c p m)
-unfolding scaled
-scaled-keeps neg c p m c0 c9 h a b = by (leb m p) refl
+-- A number that the ceilings let pass has a normal form within them.
+scaled-keeps : (neg : Bool) (c p m : ℕ) → 0 < c → c < 10 ^ maxDigits → ¬ (c % 10 ≡ 0) → exponentOf (scaled false c p m) ≤ maxPower → Normal (scaled neg c p m)
+unfolding scaled exponentOf
+scaled-keeps neg c p m c0 c9 h l = by (leb m p) refl l
   where
-    by : (t : Bool) → leb m p ≡ t → Normal (cond t (Decimal.decimal neg c false (p - m)) (Decimal.decimal neg c true (m - p)))
-    by true e = Normal.up {e = p - m} c0 c9 h (omega arith)
-    by false e = let l : p < m = leb-false m p e in Normal.down {e = m - p} c0 c9 h (omega arith) (omega arith)
+    by : (t : Bool) → leb m p ≡ t → exponentOf (cond t (Decimal.decimal false c false (p - m)) (Decimal.decimal false c true (m - p))) ≤ maxPower
+        → Normal (cond t (Decimal.decimal neg c false (p - m)) (Decimal.decimal neg c true (m - p)))
+    by true e l = Normal.up c0 c9 h l
+    by false e l = let k : p < m = leb-false m p e in Normal.down {e = m - p} c0 c9 h (omega arith) l
 
 normal-keeps : (neg : Bool) (c n f : ℕ) (down : Bool) (e k : ℕ) → c < 10 ^ n → Allowed house c n f down e k → Normal (normal neg c n f down e)
-unfolding normal house inRange
-normal-keeps neg c n f down e k l (Allowed.allowed a b) = by (eqb c 0) refl (and-right (leb k maxPowerDigits) (eqb c 0 || inRange (zeros n c) f down e) b)
+unfolding normal house
+normal-keeps neg c n f down e k l (Allowed.allowed a b) =
+    by (eqb c 0) refl (leb→le (exponentOf (normal false c n f down e)) maxPower (and-right (leb k maxPowerDigits) (leb (exponentOf (normal false c n f down e)) maxPower) b))
   where
     m : ℕ
     m = strip n c
@@ -96,15 +98,13 @@ normal-keeps neg c n f down e k l (Allowed.allowed a b) = by (eqb c 0) refl (and
     most : m < 10 ^ maxDigits
     most = omega (arith, strip-most n c, pow-le-pow-right {n = 10} (omega arith) (leb→le n maxDigits a))
 
-    range : (down : Bool) → 0 < m → ¬ (m % 10 ≡ 0) → T (inRange z f down e) → Normal (cond down (scaled neg m z (e + f)) (scaled neg m (e + z) f))
-    range true m0 h t =
-        scaled-keeps neg m z (e + f) m0 most h (leb→le z (maxPower + (e + f)) (and-right (leb (e + f) (maxPower + z)) (leb z (maxPower + (e + f))) t))
-        (leb→le (e + f) (maxPower + z) (and-left (leb (e + f) (maxPower + z)) (leb z (maxPower + (e + f))) t))
-    range false m0 h t =
-        scaled-keeps neg m (e + z) f m0 most h (leb→le (e + z) (maxPower + f) (and-right (leb f (maxPower + (e + z))) (leb (e + z) (maxPower + f)) t))
-        (leb→le f (maxPower + (e + z)) (and-left (leb f (maxPower + (e + z))) (leb (e + z) (maxPower + f)) t))
+    range : (down : Bool) → 0 < m → ¬ (m % 10 ≡ 0) → exponentOf (cond down (scaled false m z (e + f)) (scaled false m (e + z) f)) ≤ maxPower
+        → Normal (cond down (scaled neg m z (e + f)) (scaled neg m (e + z) f))
+    range true m0 h t = scaled-keeps neg m z (e + f) m0 most h t
+    range false m0 h t = scaled-keeps neg m (e + z) f m0 most h t
 
-    by : (t : Bool) → eqb c 0 ≡ t → T (t || inRange z f down e) → Normal (cond t (Decimal.decimal false 0 false 0) (cond down (scaled neg m z (e + f)) (scaled neg m (e + z) f)))
+    by : (t : Bool) → eqb c 0 ≡ t → exponentOf (cond t (Decimal.decimal false 0 false 0) (cond down (scaled false m z (e + f)) (scaled false m (e + z) f))) ≤ maxPower
+        → Normal (cond t (Decimal.decimal false 0 false 0) (cond down (scaled neg m z (e + f)) (scaled neg m (e + z) f)))
     by true p t = Normal.zero
     by false p t =
         let nonzero : c ≡ 0 → ⊥ = eqb-false c 0 p in

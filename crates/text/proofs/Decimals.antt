@@ -1,9 +1,9 @@
 -- Normal form: what `zeros` and `strip` give.
-use Prim.Native.Nat.{_%_, _*_, _/_, _<_, _^_, _≤_, suc, zero, ℕ}
-use Rattle.text.specs.Decimal.{strip, zeros}
+use Prim.Native.Nat.{_%_, _*_, _+_, _-_, _/_, _<_, _^_, _≤_, suc, zero, ℕ}
+use Rattle.text.specs.Decimal.{Decimal, exponentOf, normal, scaled, strip, zeros}
 use borrow.Author.Tests.{eqb-false, eqb-true, ne-eqb}
-use lib.Dec.{eqb}
-use mathlib.Core.Bool.{Bool, false, true}
+use lib.Dec.{eqb, leb}
+use mathlib.Core.Bool.{Bool, cond, false, true}
 use mathlib.Core.Path.{_∙_, _≡_, ap, refl, sym}
 use native.Mathlib.Nat.{mul-assoc, pow-suc}
 use native.Mathlib.Omega.{arith}
@@ -53,3 +53,21 @@ pub strip-none : (n c : ℕ) → ¬ (c % 10 ≡ 0) → strip n c ≡ c
 unfolding strip
 strip-none zero c h = refl
 strip-none (suc n) c h = ap (λ b. elim b as (λ _. ℕ) [ true ↦ strip n (c / 10) | false ↦ c ]) (ne-eqb (c % 10) 0 h)
+
+-- The exponent of a normal form: the sign has no part in it, and it is no more than what it is made of together.
+scaled-exponent : (neg : Bool) (c p m : ℕ) → exponentOf (scaled neg c p m) ≤ p + m
+unfolding scaled exponentOf
+scaled-exponent neg c p m = by (leb m p)
+  where
+    by : (b : Bool) → exponentOf (cond b (Decimal.decimal neg c false (p - m)) (Decimal.decimal neg c true (m - p))) ≤ p + m
+    by true = omega arith
+    by false = omega arith
+
+pub normal-exponent : (neg : Bool) (c n f : ℕ) (down : Bool) (e : ℕ) → exponentOf (normal neg c n f down e) ≤ e + f + n
+unfolding normal exponentOf
+normal-exponent neg c n f down e = by (eqb c 0) down
+  where
+    by : (b down : Bool) → exponentOf (cond b (Decimal.decimal false 0 false 0) (cond down (scaled neg (strip n c) (zeros n c) (e + f)) (scaled neg (strip n c) (e + zeros n c) f))) ≤ e + f + n
+    by true down = omega arith
+    by false true = omega (arith, scaled-exponent neg (strip n c) (zeros n c) (e + f), zeros-most n c)
+    by false false = omega (arith, scaled-exponent neg (strip n c) (e + zeros n c) f, zeros-most n c)

@@ -8,8 +8,8 @@ use Rattle.text.proofs.Run.{Fault, Judged, Run, Took, fault-one, judge,
 use Rattle.text.proofs.Tests.{neither, or-right}
 use Rattle.text.proofs.Way.{Went, accepts, go-on, initial, not-viable, sound, text-follows, viable, viable-by}
 use Rattle.text.specs.Bytes.{Bytes}
-use Rattle.text.specs.Ceilings.{Ceilings, Gate, among, house, inRange, numberOf, same, without}
-use Rattle.text.specs.Decimal.{normal, scaled, strip, zeros}
+use Rattle.text.specs.Ceilings.{Ceilings, Gate, among, house, numberOf, same, without}
+use Rattle.text.specs.Decimal.{exponentOf, normal, scaled, strip, zeros}
 use Rattle.text.specs.Grammar.{Text}
 use Rattle.text.specs.Node.{Node}
 use Rattle.text.specs.Verdict.{Longest, Outcome, Verdict, Viable}
@@ -170,7 +170,7 @@ module _ (B : Ceilings) (limits : Limits B) where
 
 -- The outcome as a function. Whoever unfolds it can compute with all that it is made of.
 unfoldable pub read : Ceilings → Bytes → Outcome
-unfolding run judge move valueMove otherMove afterMove numberMove memberMove closeMove wordState hexState depthOf namesOf onto ontoNodes ontoMembers house without numberOf same among inRange zeros strip scaled normal
+unfolding run judge move valueMove otherMove afterMove numberMove memberMove closeMove wordState hexState depthOf namesOf onto ontoNodes ontoMembers house without numberOf same among exponentOf zeros strip scaled normal
 read B t = (run B initial 0 t) .0
 
 pub read-right : {B : Ceilings} → Limits B → (t : Bytes) → Verdict B t (read B t)

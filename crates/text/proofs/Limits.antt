@@ -2,20 +2,20 @@
 -- those. All that is asked of ceilings is said here once, so that demand 3 holds of others than the house's too.
 use Prim.Native.Char.{code}
 use Prim.Native.Nat.{_*_, _+_, _<_, _≤_, suc, ℕ}
-use Rattle.text.proofs.Decimals.{zeros-most}
+use Rattle.text.proofs.Decimals.{normal-exponent}
 use Rattle.text.proofs.Digits.{andDigit}
 use Rattle.text.proofs.Fitting.{Fits, Fitting, Sane, isNumber}
 use Rattle.text.proofs.Fresh.{Fresh, house-fresh, letters}
 use Rattle.text.proofs.Machine.{Frame, Left, Move, Numeral, Stack, State, Use, afterMove, closeMove, hexState, memberMove, move, numberMove, onto, otherMove, valueMove, wordState}
 use Rattle.text.proofs.Run.{Took}
-use Rattle.text.proofs.Tests.{and-left, and-right, both, digit-most, either, le-both, or-left, or-right}
+use Rattle.text.proofs.Tests.{and-left, and-right, digit-most, either, le-both, or-left, or-right}
 use Rattle.text.specs.Bytes.{Bytes, Units, hexValue, isDigit}
-use Rattle.text.specs.Ceilings.{Ceilings, Gate, house, inRange, maxDigits, maxPower, maxPowerDigits, numberOf, without}
-use Rattle.text.specs.Decimal.{normal, zeros}
+use Rattle.text.specs.Ceilings.{Ceilings, Gate, house, maxDigits, maxPower, maxPowerDigits, numberOf, without}
+use Rattle.text.specs.Decimal.{exponentOf, normal}
 use Rattle.text.specs.Node.{Literal, Node, Nodes}
 use Rattle.text.specs.Numbers.{Allowed}
 use lib.Dec.{T, eqb, eqb→eq, leb, leb→le, le→leb, ltb→lt, nltb→le}
-use mathlib.Core.Bool.{Bool, _&&_, _||_, false, not, true}
+use mathlib.Core.Bool.{Bool, _&&_, false, not, true}
 use mathlib.Core.List.{[], _∷_}
 use mathlib.Core.Path.{_≡_, sym}
 use native.Mathlib.Omega.{arith}
@@ -34,13 +34,8 @@ pub record Limits (B : Ceilings) : Type 0 where
 
 -- With few digits and a short exponent the range of exponents is far.
 house-short : (c n f : ℕ) (s : Bool) (e k : ℕ) → n ≤ suc maxDigits → f ≤ n → e ≤ 99 → k ≤ maxPowerDigits → T (house (Gate.power c n f s e k))
-unfolding house inRange
-house-short c n f s e k h₁ h₂ h₃ h₄ =
-    both (leb k maxPowerDigits) (eqb c 0 || inRange (zeros n c) f s e) (le→leb k maxPowerDigits h₄) (or-right (eqb c 0) (inRange (zeros n c) f s e) (in-range s (zeros-most n c)))
-  where
-    in-range : (s : Bool) → zeros n c ≤ n → T (inRange (zeros n c) f s e)
-    in-range true z = le-both (e + f) (maxPower + zeros n c) (zeros n c) (maxPower + (e + f)) (omega arith) (omega arith)
-    in-range false z = le-both f (maxPower + (e + zeros n c)) (e + zeros n c) (maxPower + f) (omega arith) (omega arith)
+unfolding house
+house-short c n f s e k h₁ h₂ h₃ h₄ = le-both k maxPowerDigits (exponentOf (normal false c n f s e)) maxPower h₄ (omega (arith, normal-exponent false c n f s e))
 
 pub house-limits : Limits house
 unfolding house
@@ -52,7 +47,7 @@ house-limits = record {
     sane = record {
       fewer = λ n m h t. let k : m ≤ maxDigits = leb→le m maxDigits t in le→leb n maxDigits (omega arith);
       longer = λ c n f s e k e′ k′ h t.
-          let l : k ≤ maxPowerDigits = leb→le k maxPowerDigits (and-left (leb k maxPowerDigits) (eqb c 0 || inRange (zeros n c) f s e) t) in absurd (omega arith);
+          let l : k ≤ maxPowerDigits = leb→le k maxPowerDigits (and-left (leb k maxPowerDigits) (leb (exponentOf (normal false c n f s e)) maxPower) t) in absurd (omega arith);
     };
   };
   few = λ n t. leb→le n maxDigits t;

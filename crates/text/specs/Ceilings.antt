@@ -1,10 +1,10 @@
 -- The house ceilings, each of which can be dropped by itself. 01 "House ceilings" and "The answer and its numbers".
-use Prim.Native.Nat.{ℕ, _+_}
+use Prim.Native.Nat.{ℕ}
 use lib.Dec.{eqb, leb, ltb}
 use mathlib.Core.Bool.{Bool, true, false, not, _&&_, _||_}
 use mathlib.Core.List.{List, [], _∷_}
 use Rattle.text.specs.Bytes.{Units}
-use Rattle.text.specs.Decimal.{zeros}
+use Rattle.text.specs.Decimal.{exponentOf, normal}
 
 abbrev pub maxDepth : ℕ
 maxDepth = 64
@@ -51,17 +51,13 @@ unfoldable pub among : Units → List Units → Bool
 among us [] = false
 among us (n ∷ ns) = same us n || among us ns
 
--- The exponent `e` (or minus `e`), more `z` and less `f`, lies from -999 to 999.
-unfoldable pub inRange : ℕ → ℕ → Bool → ℕ → Bool
-inRange z f true e = leb (e + f) (maxPower + z) && leb z (maxPower + (e + f))
-inRange z f false e = leb f (maxPower + (e + z)) && leb (e + z) (maxPower + f)
-
+-- The range of exponents is judged on the normal form, where zero has the exponent 0.
 unfoldable pub house : Ceilings
 house (Gate.depth d) = ltb d maxDepth
 house (Gate.name us ns) = not (among us ns)
 house (Gate.high b) = false
 house (Gate.digits n) = leb n maxDigits
-house (Gate.power c n f down e k) = leb k maxPowerDigits && (eqb c 0 || inRange (zeros n c) f down e)
+house (Gate.power c n f down e k) = leb k maxPowerDigits && leb (exponentOf (normal false c n f down e)) maxPower
 
 -- The ceilings `C` without the one of refusal `i`.
 unfoldable pub without : ℕ → Ceilings → Ceilings

@@ -26,3 +26,7 @@ unfoldable pub normal : Bool → ℕ → ℕ → ℕ → Bool → ℕ → Decima
 normal neg c n f down e =
     cond (eqb c 0) (decimal false 0 false 0)
     (cond down (scaled neg (strip n c) (zeros n c) (e + f)) (scaled neg (strip n c) (e + zeros n c) f))
+
+-- The exponent apart from its sign.
+unfoldable pub exponentOf : Decimal → ℕ
+exponentOf (decimal neg c down e) = e
