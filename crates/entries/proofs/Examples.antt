@@ -19,15 +19,15 @@ use mathlib.Core.List.{List, [], _∷_}
 use mathlib.Core.Path.{_≡_, ap, refl, subst}
 
 pub data Case : Type 0 where
-  -- a text is refused with a number at a place
+  -- A text is refused with a number at a place.
   refuses : Bytes → ℕ → ℕ → Case
-  -- a text is written as these bytes
+  -- A text is written as these bytes.
   writes : Bytes → Bytes → Case
-  -- in a text a pointer names the part of these bytes
+  -- In a text a pointer names the part of these bytes.
   finds : Bytes → Bytes → Bytes → Case
-  -- in a text a pointer is refused with a number at a place
+  -- In a text a pointer is refused with a number at a place.
   misses : Bytes → Bytes → ℕ → ℕ → Case
-  -- a target with a patch gives these bytes
+  -- A target with a patch gives these bytes.
   patches : Bytes → Bytes → Bytes → Case
 
 -- Lent slices hold 7 everywhere at entry: tables of four words for each byte, outputs of just the length needed.

@@ -3,13 +3,14 @@
 use Prim.Native.Char.{code}
 use Prim.Native.Nat.{_+_, _<_, _≤_, suc, ℕ}
 use Rattle.meaning.specs.Pointer.{Begins, Malformed, Pointer, Token, TokenRest, Tokens, isPlainToken, maxPointer}
-use Rattle.text.proofs.Longest.{longest-at, longest-one, longest-whole, take-whole}
+use Rattle.text.proofs.Longest.{longest-at, longest-one, longest-whole}
 use Rattle.text.proofs.Tests.{is-true, true-is}
 use Rattle.text.specs.Bytes.{Bytes, Source, Units, from}
 use Rattle.text.specs.Verdict.{Longest}
 use borrow.Author.Tests.{eqb-true, leb-false, leb-true}
 use lib.Dec.{T, eqb, leb}
 use lib.ListN.{length, length-append, length-take, take}
+use lib.Seq.{take-all}
 use mathlib.Core.Bool.{Bool, false, true, true≢false}
 use mathlib.Core.List.{List, [], _++_, _∷_, append-assoc, append-nil}
 use mathlib.Core.Logic.{_↔_}
@@ -313,7 +314,7 @@ data Within (m : ℕ) (t : Bytes) : Parsed → Type 0 where
 
 within-whole : {m : ℕ} {t : Bytes} {x : Parsed} → length t ≤ m → Ruled t x → Within m t x
 within-whole h (Ruled.tokens x) = Within.tokens h x
-within-whole {m} {t} h (Ruled.malformed {n = n} f l) = Within.malformed (λ ts _. f ts) (subst⁻¹ (λ u. Longest Begins u n) (take-whole m t h) l)
+within-whole {m} {t} h (Ruled.malformed {n = n} f l) = Within.malformed (λ ts _. f ts) (subst⁻¹ (λ u. Longest Begins u n) (take-all m t h) l)
 
 within-cut : {m : ℕ} {t : Bytes} {x : Parsed} → m < length t → Ruled (take m t) x → Within m t (cutOff m x)
 unfolding cutOff

@@ -44,7 +44,7 @@ module _ (C : Ceilings) where
   before : {s s′ : State} {i : ℕ} (b : ℕ) → Fitting C s → Took C (move s i b) s′ → Live s′ (suc i) → Live s i
   before b φ k (w, r, h) = (b ∷ w, r, follows-before C φ k h)
 
-  -- where the rest begins behind so many letters and a quote
+  -- Where the rest begins behind so many letters and a quote.
   past : List (Unit {0}) → ℕ → ℕ
   past [] i = suc i
   past (x ∷ n) i = past n (suc i)

@@ -3,24 +3,14 @@
 use Prim.Native.Nat.{_<_, _≤_, suc, zero, ℕ}
 use Rattle.text.specs.Bytes.{Bytes}
 use Rattle.text.specs.Verdict.{Longest}
-use lib.ListN.{length, length-append, take}
+use lib.ListN.{drop, getD, length, length-append, length-take, take, take-append-drop}
+use lib.Seq.{drop-cons, take-append-seam, take-length, take-suc}
 use mathlib.Core.List.{[], _++_, _∷_}
-use mathlib.Core.Path.{_≡_, ap, refl, subst, subst⁻¹}
+use mathlib.Core.Path.{_∙_, _≡_, ap, refl, subst, subst⁻¹, sym}
 use native.Mathlib.Omega.{arith}
 
 pub longest-one : (Good : Bytes → Type 0) (t : Bytes) {m n : ℕ} → Longest Good t m → Longest Good t n → m ≡ n
 longest-one Good t {m = m} {n = n} (p, q, r) (x, y, z) = let a : m ≤ n = z m p q in let b : n ≤ m = r n x y in omega arith
-
-take-front : (p q : Bytes) → take (length p) (p ++ q) ≡ p
-take-front [] q = refl
-take-front (b ∷ p) q = ap (λ t. b ∷ t) (take-front p q)
-
--- Bytes that are no longer than `n` are their own first `n`.
-pub take-whole : (n : ℕ) (t : Bytes) → length t ≤ n → take n t ≡ t
-take-whole zero [] h = refl
-take-whole zero (b ∷ t) h = absurd (omega arith)
-take-whole (suc n) [] h = refl
-take-whole (suc n) (b ∷ t) h = ap (λ u. b ∷ u) (take-whole n t (omega arith))
 
 -- What reaches past `p` begins with `p` and the byte behind it.
 take-past : (k : ℕ) (p : Bytes) (b : ℕ) (q : Bytes) → length p < k → (r : Bytes) × (take k (p ++ (b ∷ q)) ≡ (p ++ (b ∷ [])) ++ r)
@@ -30,14 +20,14 @@ take-past (suc k) (c ∷ p) b q h = let (r, e) = take-past k p b q (omega arith)
 
 -- Good bytes are their own longest good beginning.
 pub longest-whole : (Good : Bytes → Type 0) (t : Bytes) → Good t → Longest Good t (length t)
-longest-whole Good t g = (omega arith, subst⁻¹ Good (take-whole (length t) t (omega arith)) g, λ k h _. h)
+longest-whole Good t g = (omega arith, subst⁻¹ Good (take-length t) g, λ k h _. h)
 
 -- Where beginnings of what is good are good, a good beginning that the byte behind it makes bad is the longest.
 pub longest-at : (Good : Bytes → Type 0) → ((p q : Bytes) → Good (p ++ q) → Good p)
     → (t p : Bytes) (b : ℕ) (q : Bytes) → t ≡ p ++ (b ∷ q) → Good p → ¬ (Good (p ++ (b ∷ []))) → Longest Good t (length p)
 longest-at Good cut t p b q e g n = subst⁻¹ (λ u. Longest Good u (length p)) e (
   omega (arith, length-append p (b ∷ q)),
-  subst⁻¹ Good (take-front p (b ∷ q)) g,
+  subst⁻¹ Good (take-append-seam p (b ∷ q)) g,
   λ k _ h. within k h,
 )
   where
@@ -49,10 +39,13 @@ longest-at Good cut t p b q e g n = subst⁻¹ (λ u. Longest Good u (length p))
 
 -- A byte inside `t`, what stands before it and what stands behind it.
 pub cut-at : (n : ℕ) (t : Bytes) → n < length t → (b : ℕ) × (q : Bytes) × (t ≡ take n t ++ (b ∷ q)) × (take (suc n) t ≡ take n t ++ (b ∷ [])) × (length (take n t) ≡ n)
-cut-at n [] h = absurd (omega arith)
-cut-at zero (b ∷ t) h = (b, t, refl, refl, refl)
-cut-at (suc n) (c ∷ t) h =
-    let (b, q, e, f, l) = cut-at n t (omega arith) in (b, q, ap (λ u. c ∷ u) e, ap (λ u. c ∷ u) f, omega arith)
+cut-at n t h = (
+  getD t n 0,
+  drop (suc n) t,
+  sym (take-append-drop n t) ∙ ap (λ u. take n t ++ u) (drop-cons t n 0 h),
+  take-suc t n 0 h,
+  omega (arith, length-take n t),
+)
 
 pub take-next : (p : Bytes) (b : ℕ) (q : Bytes) → take (suc (length p)) (p ++ (b ∷ q)) ≡ p ++ (b ∷ [])
 take-next [] b q = refl

@@ -1,5 +1,4 @@
 -- The machine's way through a text: the moves that ceilings let pass or refuse, the run, and what it says of the grammar.
--- A move that the ceilings let pass, and one that they or the grammar refuse with its number.
 use Prim.Native.Nat.{suc, ℕ}
 use Rattle.text.proofs.Digits.{countFrom}
 use Rattle.text.proofs.Fitting.{Fits, Fitting, Sane, isNumber}
@@ -20,6 +19,7 @@ use mathlib.Core.List.{List, [], _∷_}
 use mathlib.Core.Path.{_≡_, ap, refl, subst⁻¹}
 use Rattle.text.specs.Grammar as rule
 
+-- A move that the ceilings let pass, and one that they or the grammar refuse with its number.
 pub data Took (C : Ceilings) : Move → State → Type 0 where
   go : {s : State} → Took C (Move.go s) s
   ask : {g : Gate} {s : State} → T (C g) → Took C (Move.ask g s) s
@@ -68,6 +68,7 @@ pub data Done : State → ℕ → Node → Type 0 where
   fraction : {i p : ℕ} {neg : Bool} {c n f : ℕ} → Done (State.number (Numeral.fraction neg c n f) p []) i (Node.number p i (normal neg c n f false 0))
   power : {i p : ℕ} {neg s : Bool} {c n f e k : ℕ} → Done (State.number (Numeral.power neg c n f s e k) p []) i (Node.number p i (normal neg c n f s e))
 
+-- Some byte is left.
 abbrev Some : Source → Type 0
 Some (from n []) = ⊥
 Some (from n (b ∷ i)) = Unit {0}
@@ -105,6 +106,7 @@ done-is Done.whole = tt
 done-is Done.fraction = tt
 done-is Done.power = tt
 
+-- A state may end a text, or is not finished.
 pub data Ended (s : State) (n : ℕ) : Type 0 where
   ends : (v : Node) → Done s n v → Ended s n
   unfinished : ((v : Node) → ¬ (Done s n v)) → Ended s n
@@ -135,6 +137,7 @@ ended (State.hex l a u us) i = Ended.unfinished λ v d. done-is d
 ended (State.member a ms st) i = Ended.unfinished λ v d. done-is d
 ended (State.named q us a ms st) i = Ended.unfinished λ v d. done-is d
 
+-- The run from a state at an offset over the bytes to come.
 pub data Run (C : Ceilings) : State → ℕ → Bytes → Outcome → Type 0 where
   ends : {s : State} {n : ℕ} {v : Node} → Done s n v → Run C s n [] (Outcome.accepted v)
   short : {s : State} {n : ℕ} → ((v : Node) → ¬ (Done s n v)) → Run C s n [] (Outcome.refused 3 n)
