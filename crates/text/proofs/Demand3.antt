@@ -23,7 +23,7 @@ use native.Mathlib.Nat.{zero-add}
 use native.Mathlib.Omega.{arith}
 
 -- Why a move is refused: no ceiling is to blame, or one that lets it pass when it is dropped, as no other does.
-data Cause (B : Ceilings) (m : Move) : ℕ → Type 0 where
+pub data Cause (B : Ceilings) (m : Move) : ℕ → Type 0 where
   none : ((i : ℕ) → Fault (without i B) m 4) → Cause B m 4
   gate : {k : ℕ} (s : State) → Took (without k B) m s → ((i : ℕ) → ¬ (k ≡ i) → Fault (without i B) m k) → Cause B m k
 
@@ -35,7 +35,7 @@ cause-no : {B : Ceilings} {c : Bool} {x y : Move} {k : ℕ} → T (not c) → Ca
 cause-no p (Cause.none h) = Cause.none (λ i. Fault.no p (h i))
 cause-no p (Cause.gate s t h) = Cause.gate s (Took.no p t) (λ i n. Fault.no p (h i n))
 
-cause : {B : Ceilings} {m : Move} {k : ℕ} → Fault B m k → Cause B m k
+pub cause : {B : Ceilings} {m : Move} {k : ℕ} → Fault B m k → Cause B m k
 unfolding without
 cause Fault.bad = Cause.none (λ i. Fault.bad)
 cause {B} (Fault.ask {g = g} {s = s} t) =
@@ -181,6 +181,14 @@ pub read-only : {B : Ceilings} → Limits B → (t : Bytes) {a : Outcome} → Ve
 unfolding read
 read-only {B} limits t v = only-run B limits ((run B initial 0 t) .1) v
 
+-- A run and its verdict.
+pub run-verdict : {B : Ceilings} → Limits B → {t : Bytes} {a : Outcome} → Run B initial 0 t a → Verdict B t a
+run-verdict {B} limits ρ = right-run B limits ρ (split ρ)
+
+pub verdict-run : {B : Ceilings} → Limits B → {t : Bytes} {a : Outcome} → Verdict B t a → Run B initial 0 t a
+unfolding read
+verdict-run {B} limits {t} v = subst (Run B initial 0 t) (read-only limits t v) ((run B initial 0 t) .1)
+
 -- Demand 3.
 pub demand-3 : {B : Ceilings} → Limits B → (t : Bytes) (a : Outcome) → (a ≡ read B t) ↔ Verdict B t a
 demand-3 {B} limits t a = (λ e. subst⁻¹ (Verdict B t) e (read-right limits t), λ v. sym (read-only limits t v))
@@ -209,5 +217,4 @@ run-range (Run.on k ρ) = run-range ρ
 run-range (Run.off f) = fault-range f
 
 pub number-of-refusal : {t : Bytes} {n P : ℕ} → Verdict house t (Outcome.refused n P) → (3 ≤ n) × (n ≤ 9)
-unfolding read
-number-of-refusal {t} {n} {P} v = run-range (subst (Run house initial 0 t) (read-only house-limits t v) ((run house initial 0 t) .1))
+number-of-refusal v = run-range (verdict-run house-limits v)

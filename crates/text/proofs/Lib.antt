@@ -16,6 +16,8 @@ pub mod Longest
 pub mod Records
 pub mod Way
 pub mod Demand3
+pub mod Dropping
+pub mod Blame
 pub mod Every
 pub mod Takes
 pub mod Offsets
