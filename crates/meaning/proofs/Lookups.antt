@@ -8,7 +8,7 @@ use Rattle.text.proofs.Records.{records-length, table-length}
 use Rattle.text.specs.Bytes.{Units, valueFrom}
 use Rattle.text.specs.Ceilings.{same}
 use Rattle.text.specs.Node.{Members, Node, Nodes}
-use Rattle.text.specs.Table.{Words, recordWords, records, recordsM, recordsOf, size, sizes, sizesM, table, unnamed}
+use Rattle.text.specs.Table.{Words, recordWords, records, recordsMembers, recordsAll, size, sizeAll, sizeMembers, table, unnamed}
 use lib.ListN.{drop, getD, length, length-append}
 use lib.Seq.{getD-append-add}
 use mathlib.Core.Bool.{Bool, false, true}
@@ -123,19 +123,19 @@ held-before b k ws (Seen.found j u) (q, pre, post, e, l) = (q, pre, post ++ b, a
 held-later : (v : Node) (q n : ℕ) (r : Words) (s : Seen) → HeldSeen r (n + size v) s → HeldSeen (records v q n ++ r) n s
 held-later v q n r s h = held-behind (records v q n) n (n + size v) r s (omega (arith, records-length v q n)) h
 
-name-held : (p : ℕ) (us : Units) (n : ℕ) (ms : Members) → HeldSeen (recordsM ms n) n (byName p us n ms)
+name-held : (p : ℕ) (us : Units) (n : ℕ) (ms : Members) → HeldSeen (recordsMembers ms n) n (byName p us n ms)
 unfolding byName records HeldSeen
 name-held p us n Members.empty = tt
 name-held p us n (Members.member q k v ms) =
-    branches (λ s (_ : Unit {0}). HeldSeen (recordsM (Members.member q k v ms) n) n s) (same us k)
-    (held-first v q n (recordsM ms (n + size v)))
-    (held-later v q n (recordsM ms (n + size v)) (byName p us (n + size v) ms) (name-held p us (n + size v) ms))
+    branches (λ s (_ : Unit {0}). HeldSeen (recordsMembers (Members.member q k v ms) n) n s) (same us k)
+    (held-first v q n (recordsMembers ms (n + size v)))
+    (held-later v q n (recordsMembers ms (n + size v)) (byName p us (n + size v) ms) (name-held p us (n + size v) ms))
 
-nth-held : (p i n : ℕ) (vs : Nodes) → HeldSeen (recordsOf vs n) n (nth p i n vs)
+nth-held : (p i n : ℕ) (vs : Nodes) → HeldSeen (recordsAll vs n) n (nth p i n vs)
 unfolding nth records HeldSeen
 nth-held p i n Nodes.nil = tt
-nth-held p zero n (Nodes.cons v vs) = held-first v unnamed n (recordsOf vs (n + size v))
-nth-held p (suc i) n (Nodes.cons v vs) = held-later v unnamed n (recordsOf vs (n + size v)) (nth p i (n + size v) vs) (nth-held p i (n + size v) vs)
+nth-held p zero n (Nodes.cons v vs) = held-first v unnamed n (recordsAll vs (n + size v))
+nth-held p (suc i) n (Nodes.cons v vs) = held-later v unnamed n (recordsAll vs (n + size v)) (nth p i (n + size v) vs) (nth-held p i (n + size v) vs)
 
 child-held : (p : ℕ) (us : Units) (n : ℕ) (v : Node) (x : ℕ) → HeldSeen (records v x n) n (child p us n v)
 unfolding child records HeldSeen
@@ -143,10 +143,10 @@ child-held p us n (Node.literal a e w) x = tt
 child-held p us n (Node.string a e vs) x = tt
 child-held p us n (Node.number a e y) x = tt
 child-held p us n (Node.array a e vs) x =
-    held-behind (a ∷ e ∷ x ∷ (n + suc (sizes vs)) ∷ []) n (suc n) (recordsOf vs (suc n)) (child p us n (Node.array a e vs)) (omega arith)
-    (branches (λ s (_ : Unit {0}). HeldSeen (recordsOf vs (suc n)) (suc n) s) (isIndex us) (nth-held p (valueFrom 0 us) (suc n) vs) tt)
+    held-behind (a ∷ e ∷ x ∷ (n + suc (sizeAll vs)) ∷ []) n (suc n) (recordsAll vs (suc n)) (child p us n (Node.array a e vs)) (omega arith)
+    (branches (λ s (_ : Unit {0}). HeldSeen (recordsAll vs (suc n)) (suc n) s) (isIndex us) (nth-held p (valueFrom 0 us) (suc n) vs) tt)
 child-held p us n (Node.object a e ms) x =
-    held-behind (a ∷ e ∷ x ∷ (n + suc (sizesM ms)) ∷ []) n (suc n) (recordsM ms (suc n)) (byName p us (suc n) ms) (omega arith) (name-held p us (suc n) ms)
+    held-behind (a ∷ e ∷ x ∷ (n + suc (sizeMembers ms)) ∷ []) n (suc n) (recordsMembers ms (suc n)) (byName p us (suc n) ms) (omega arith) (name-held p us (suc n) ms)
 
 -- The look-up's number counts records: the words from four times it on are the found value's own.
 pub resolve-held : (ts : List Token) (n : ℕ) (v : Node) (x : ℕ) → HeldSeen (records v x n) n (resolve ts n v)

@@ -7,7 +7,7 @@ use Rattle.text.specs.Bytes.{Bytes, Source, Units}
 use Rattle.text.specs.Ceilings.{Ceilings}
 use Rattle.text.specs.Grammar.{Array, Elements, Member, Named, Object, Rest, Text, Value}
 use Rattle.text.specs.Node.{Members, Node, Nodes}
-use Rattle.text.specs.Table.{Words, records, recordsM, recordsOf, size, sizes, sizesM, table, unnamed}
+use Rattle.text.specs.Table.{Words, records, recordsMembers, recordsAll, size, sizeAll, sizeMembers, table, unnamed}
 use lib.ListN.{length}
 use mathlib.Core.List.{List, [], _∷_}
 use mathlib.Core.Path.{_≡_}
@@ -133,18 +133,18 @@ mutual
   records-fit (Node.literal p q w) k (a, b) f h = record-fits [] a b f (omega arith) tt
   records-fit (Node.string p q us) k (a, b) f h = record-fits [] a b f (omega arith) tt
   records-fit (Node.number p q x) k (a, b) f h = record-fits [] a b f (omega arith) tt
-  records-fit (Node.array p q vs) k (a, b, c) f h = record-fits (recordsOf vs (suc k)) a b f h (recordsOf-fit vs (suc k) c (omega arith))
-  records-fit (Node.object p q ms) k (a, b, c) f h = record-fits (recordsM ms (suc k)) a b f h (recordsM-fit ms (suc k) c (omega arith))
+  records-fit (Node.array p q vs) k (a, b, c) f h = record-fits (recordsAll vs (suc k)) a b f h (recordsAll-fit vs (suc k) c (omega arith))
+  records-fit (Node.object p q ms) k (a, b, c) f h = record-fits (recordsMembers ms (suc k)) a b f h (recordsMembers-fit ms (suc k) c (omega arith))
 
-  recordsOf-fit : {n : ℕ} (vs : Nodes) (k : ℕ) → InsideAll n vs → k + sizes vs ≤ n → Every (Fits n) (recordsOf vs k)
-  recordsOf-fit Nodes.nil k x h = tt
-  recordsOf-fit {n} (Nodes.cons v vs) k (a, b) h =
-      every-append (Fits n) (records v unnamed k) (recordsOf vs (k + size v)) (records-fit v k a Fits.nameless (omega arith)) (recordsOf-fit vs (k + size v) b (omega arith))
+  recordsAll-fit : {n : ℕ} (vs : Nodes) (k : ℕ) → InsideAll n vs → k + sizeAll vs ≤ n → Every (Fits n) (recordsAll vs k)
+  recordsAll-fit Nodes.nil k x h = tt
+  recordsAll-fit {n} (Nodes.cons v vs) k (a, b) h =
+      every-append (Fits n) (records v unnamed k) (recordsAll vs (k + size v)) (records-fit v k a Fits.nameless (omega arith)) (recordsAll-fit vs (k + size v) b (omega arith))
 
-  recordsM-fit : {n : ℕ} (ms : Members) (k : ℕ) → InsideMembers n ms → k + sizesM ms ≤ n → Every (Fits n) (recordsM ms k)
-  recordsM-fit Members.empty k x h = tt
-  recordsM-fit {n} (Members.member q us v ms) k (l, a, b) h =
-      every-append (Fits n) (records v q k) (recordsM ms (k + size v)) (records-fit v k a (Fits.most (omega arith)) (omega arith)) (recordsM-fit ms (k + size v) b (omega arith))
+  recordsMembers-fit : {n : ℕ} (ms : Members) (k : ℕ) → InsideMembers n ms → k + sizeMembers ms ≤ n → Every (Fits n) (recordsMembers ms k)
+  recordsMembers-fit Members.empty k x h = tt
+  recordsMembers-fit {n} (Members.member q us v ms) k (l, a, b) h =
+      every-append (Fits n) (records v q k) (recordsMembers ms (k + size v)) (records-fit v k a (Fits.most (omega arith)) (omega arith)) (recordsMembers-fit ms (k + size v) b (omega arith))
 
 pub table-inside : {C : Ceilings} {t : Bytes} {v : Node} → Text C t v → Every (Fits (length t)) (table v)
 unfolding table

@@ -7,7 +7,7 @@ use Rattle.text.specs.Grammar.{Array, Elements, Member, Named, Object, R
 use Rattle.text.specs.Node.{Members, Node, Nodes}
 use Rattle.text.specs.Numbers.{Digits, Fraction, Minus, Number, Power, Sign, Whole}
 use Rattle.text.specs.Strings.{Chars, Escape, Word}
-use Rattle.text.specs.Table.{size, sizes, sizesM}
+use Rattle.text.specs.Table.{size, sizeAll, sizeMembers}
 use lib.ListN.{length}
 use mathlib.Core.Bool.{Bool, false, true}
 use mathlib.Core.List.{List}
@@ -90,30 +90,30 @@ mutual
   value-takes (rule.array t x) = omega (arith, array-takes x)
   value-takes (rule.object t x) = omega (arith, object-takes x)
 
-  array-takes : {C : Ceilings} {d : ℕ} {i o : Source} {vs : Nodes} → Array C d i o vs → Takes (suc (sizes vs)) i o
+  array-takes : {C : Ceilings} {d : ℕ} {i o : Source} {vs : Nodes} → Array C d i o vs → Takes (suc (sizeAll vs)) i o
   array-takes (rule.array-space w x) = omega (arith, array-takes x)
   array-takes rule.array-close = omega arith
   array-takes (rule.array-first x y) = omega (arith, value-takes x, elements-take y)
 
-  elements-take : {C : Ceilings} {d : ℕ} {i o : Source} {vs : Nodes} → Elements C d i o vs → Takes (suc (sizes vs)) i o
+  elements-take : {C : Ceilings} {d : ℕ} {i o : Source} {vs : Nodes} → Elements C d i o vs → Takes (suc (sizeAll vs)) i o
   elements-take (rule.elements-space w x) = omega (arith, elements-take x)
   elements-take rule.elements-close = omega arith
   elements-take (rule.elements-comma x y) = omega (arith, value-takes x, elements-take y)
 
-  object-takes : {C : Ceilings} {d : ℕ} {i o : Source} {ms : Members} → Object C d i o ms → Takes (suc (sizesM ms)) i o
+  object-takes : {C : Ceilings} {d : ℕ} {i o : Source} {ms : Members} → Object C d i o ms → Takes (suc (sizeMembers ms)) i o
   object-takes (rule.object-space w x) = omega (arith, object-takes x)
   object-takes rule.object-close = omega arith
   object-takes (rule.object-first x) = omega (arith, member-takes x)
 
-  member-takes : {C : Ceilings} {d : ℕ} {ns : List Units} {i o : Source} {ms : Members} → Member C d ns i o ms → Takes (suc (sizesM ms)) i o
+  member-takes : {C : Ceilings} {d : ℕ} {ns : List Units} {i o : Source} {ms : Members} → Member C d ns i o ms → Takes (suc (sizeMembers ms)) i o
   member-takes (rule.member-space w x) = omega (arith, member-takes x)
   member-takes (rule.member-name s t x) = omega (arith, chars-take s, named-takes x)
 
-  named-takes : {C : Ceilings} {d q : ℕ} {ns : List Units} {us : Units} {i o : Source} {ms : Members} → Named C d ns q us i o ms → Takes (suc (sizesM ms)) i o
+  named-takes : {C : Ceilings} {d q : ℕ} {ns : List Units} {us : Units} {i o : Source} {ms : Members} → Named C d ns q us i o ms → Takes (suc (sizeMembers ms)) i o
   named-takes (rule.named-space w x) = omega (arith, named-takes x)
   named-takes (rule.named-colon x y) = omega (arith, value-takes x, rest-takes y)
 
-  rest-takes : {C : Ceilings} {d : ℕ} {ns : List Units} {i o : Source} {ms : Members} → Rest C d ns i o ms → Takes (suc (sizesM ms)) i o
+  rest-takes : {C : Ceilings} {d : ℕ} {ns : List Units} {i o : Source} {ms : Members} → Rest C d ns i o ms → Takes (suc (sizeMembers ms)) i o
   rest-takes (rule.rest-space w x) = omega (arith, rest-takes x)
   rest-takes rule.rest-close = omega arith
   rest-takes (rule.rest-comma x) = omega (arith, member-takes x)

@@ -19,16 +19,16 @@ unfoldable mutual
   size (Node.literal p q w) = 1
   size (Node.string p q us) = 1
   size (Node.number p q x) = 1
-  size (Node.array p q vs) = suc (sizes vs)
-  size (Node.object p q ms) = suc (sizesM ms)
+  size (Node.array p q vs) = suc (sizeAll vs)
+  size (Node.object p q ms) = suc (sizeMembers ms)
 
-  pub sizes : Nodes → ℕ
-  sizes Nodes.nil = 0
-  sizes (Nodes.cons v vs) = size v + sizes vs
+  pub sizeAll : Nodes → ℕ
+  sizeAll Nodes.nil = 0
+  sizeAll (Nodes.cons v vs) = size v + sizeAll vs
 
-  pub sizesM : Members → ℕ
-  sizesM Members.empty = 0
-  sizesM (Members.member q us v ms) = size v + sizesM ms
+  pub sizeMembers : Members → ℕ
+  sizeMembers Members.empty = 0
+  sizeMembers (Members.member q us v ms) = size v + sizeMembers ms
 
 -- The records of a value whose name stands at `m`, from number `k` on.
 unfoldable mutual
@@ -38,16 +38,16 @@ unfoldable mutual
   records (Node.literal p q w) m k = p ∷ q ∷ m ∷ suc k ∷ []
   records (Node.string p q us) m k = p ∷ q ∷ m ∷ suc k ∷ []
   records (Node.number p q x) m k = p ∷ q ∷ m ∷ suc k ∷ []
-  records (Node.array p q vs) m k = p ∷ q ∷ m ∷ (k + suc (sizes vs)) ∷ recordsOf vs (suc k)
-  records (Node.object p q ms) m k = p ∷ q ∷ m ∷ (k + suc (sizesM ms)) ∷ recordsM ms (suc k)
+  records (Node.array p q vs) m k = p ∷ q ∷ m ∷ (k + suc (sizeAll vs)) ∷ recordsAll vs (suc k)
+  records (Node.object p q ms) m k = p ∷ q ∷ m ∷ (k + suc (sizeMembers ms)) ∷ recordsMembers ms (suc k)
 
-  pub recordsOf : Nodes → ℕ → Words
-  recordsOf Nodes.nil k = []
-  recordsOf (Nodes.cons v vs) k = records v unnamed k ++ recordsOf vs (k + size v)
+  pub recordsAll : Nodes → ℕ → Words
+  recordsAll Nodes.nil k = []
+  recordsAll (Nodes.cons v vs) k = records v unnamed k ++ recordsAll vs (k + size v)
 
-  pub recordsM : Members → ℕ → Words
-  recordsM Members.empty k = []
-  recordsM (Members.member q us v ms) k = records v q k ++ recordsM ms (k + size v)
+  pub recordsMembers : Members → ℕ → Words
+  recordsMembers Members.empty k = []
+  recordsMembers (Members.member q us v ms) k = records v q k ++ recordsMembers ms (k + size v)
 
 -- The table of a whole text.
 unfoldable pub table : Node → Words
