@@ -1,0 +1,133 @@
+-- The number leaf's answers, part by part.
+use Prim.Native.Char.{code}
+use Prim.Native.Nat.{_*_, _+_, _-_, _<_, _≤_, ℕ}
+use Rattle.scan.proofs.Numerals.{digit-settles, first-nonzero, first-zero, fraction-mark, mark-digit, mark-minus, mark-plus, minus-first, minus-short, minus-wrong, no-point, onto-settled, onto-spoilt, point-digit, point-many, settle-fraction, sign-digit, value-first, value-minus, whole-point, zero-whole}
+use Rattle.scan.proofs.Steps.{differs, fails, holds, stands}
+use Rattle.scan.specs.Answers.{at}
+use Rattle.scan.specs.Numbers.{NumberAt, Unnumbered, opensNumber}
+use Rattle.scan.specs.Numerals.{DigitsAt, Onto, PartAt, Settled, Sound, Spoilt, behindFraction, behindMark, behindPower, behindSign, first, writtenOf}
+use Rattle.scan.specs.declared.exponent.Mantissa.{Mantissa}
+use Rattle.scan.specs.declared.number.Number.{Number}
+use Rattle.text.proofs.Digits.{andDigit}
+use Rattle.text.proofs.Machine.{Numeral, State}
+use Rattle.text.specs.Bytes.{Bytes, isDigit, isE}
+use Rattle.text.specs.Ceilings.{maxDigits}
+use borrow.Author.Tests.{ne-eqb}
+use lib.Dec.{T}
+use lib.ListN.{getD, length}
+use mathlib.Core.Bool.{Bool, false, not, true}
+use mathlib.Core.Path.{_∙_, _≡_, ap, subst, subst⁻¹, sym}
+use native.Mathlib.Omega.{arith}
+
+pub onto-part : (t : Bytes) (s s′ : Numeral) (i j : ℕ) (r : Number) → i ≤ j → Onto t s i s′ j → PartAt t s′ j r → PartAt t s i r
+onto-part t s s′ i j (Number.Decimal w) h x y = onto-settled h x y
+onto-part t s s′ i j (Number.Refused k q) h x y = onto-spoilt x y
+
+module _ (t : Bytes) (i : ℕ) (r : Number) where
+  module _ (w : ℕ) (h : i < length t) (d : T (isDigit (getD t i 0))) (e : w ≡ getD t i 0 - 48) where
+    g : andDigit 0 (getD t i 0) ≡ w
+    g = omega arith
+
+    pub sign-rest : (m : Mantissa) (down : Bool) → PartAt t (behindPower m down w 1) (i + 1) r → PartAt t (behindSign m down) i r
+    sign-rest m down = onto-part t _ _ i (i + 1) r (omega arith) (subst (λ x. Onto t (behindSign m down) i (behindPower m down x 1) (i + 1)) g (sign-digit t i h d m down))
+
+    pub mark-rest : (m : Mantissa) → PartAt t (behindPower m false w 1) (i + 1) r → PartAt t (behindMark m) i r
+    mark-rest m = onto-part t _ _ i (i + 1) r (omega arith) (subst (λ x. Onto t (behindMark m) i (behindPower m false x 1) (i + 1)) g (mark-digit t i h d m))
+
+  pub plus-rest : (m : Mantissa) → i < length t → getD t i 0 ≡ code "+" → PartAt t (behindSign m false) (i + 1) r → PartAt t (behindMark m) i r
+  plus-rest m h e = onto-part t _ _ i (i + 1) r (omega arith) (mark-plus t i h m e)
+
+  pub minus-rest : (m : Mantissa) → i < length t → getD t i 0 ≡ code "-" → PartAt t (behindSign m true) (i + 1) r → PartAt t (behindMark m) i r
+  minus-rest m h e = onto-part t _ _ i (i + 1) r (omega arith) (mark-minus t i h m e)
+
+  pub point-none : (neg : Bool) (c n b : ℕ) → T (not (isDigit (getD t i 0))) → b ≡ getD t i 0 → (b ≡ code "." → ⊥) → PartAt t (Numeral.fraction neg c n 0) i r → PartAt t (Numeral.whole neg c n) i r
+  point-none neg c n b d e f = onto-part t _ _ i i r (omega arith) (no-point t i neg c n d (differs _ _ (λ g. f (e ∙ g))))
+
+-- An exponent or the end of the number.
+module _ (t : Bytes) (i b : ℕ) (x : Bool) (e : b ≡ getD t i 0) (f : x ≡ isE b) where
+  marks : x ≡ true → T (isE (getD t i 0))
+  marks g = subst (λ b. T (isE b)) e (holds x (isE b) f g)
+
+  pub tail-in : x ≡ true → i < length t
+  tail-in g = stands t i (λ z. subst (λ b. T (isE b)) z (marks g))
+
+  module _ (m : Mantissa) (d : T (not (isDigit (getD t i 0)))) where
+    pub tail-power : (r : Number) → x ≡ true → PartAt t (behindMark m) (i + 1) r → PartAt t (behindFraction m) i r
+    tail-power r g = onto-part t _ _ i (i + 1) r (omega arith) (fraction-mark t i (tail-in g) m d (marks g))
+
+    pub tail-end : Sound m → i ≤ length t → x ≡ false → (r : Number) → r ≡ Number.Decimal (writtenOf m false 0 i) → PartAt t (behindFraction m) i r
+    tail-end z h g r y = subst⁻¹ (PartAt t (behindFraction m) i) y (settle-fraction t m z i h d (subst (λ b. T (not (isE b))) e (fails x (isE b) f g)))
+
+-- A point, and the digits behind it.
+module _ (t : Bytes) (i : ℕ) (neg : Bool) (c n b : ℕ) (e : b ≡ getD t i 0) (f : b ≡ code ".") where
+  pub point-in : i < length t
+  point-in = stands t i (λ g. absurd (omega arith))
+
+  pub point-full : n ≡ maxDigits → Spoilt t (Numeral.whole neg c n) i 6 i
+  point-full l = point-many t i point-in neg c n (sym e ∙ f) (omega arith)
+
+  pub point-rest : (r : Number) → n < maxDigits → PartAt t (Numeral.point neg c n) (i + 1) r → PartAt t (Numeral.whole neg c n) i r
+  point-rest r l = onto-part t _ _ i (i + 1) r (omega arith) (whole-point t i point-in neg c n (sym e ∙ f) l)
+
+module _ (t : Bytes) (i : ℕ) (neg : Bool) (c n : ℕ) (h : i < length t) (d : T (isDigit (getD t i 0))) (w : ℕ) (y : w ≡ getD t i 0 - 48) where
+  to-fraction : Onto t (Numeral.point neg c n) i (Numeral.fraction neg (10 * c + w) (n + 1) 1) (i + 1)
+  to-fraction p st = rw y (point-digit t i h d neg c n p st)
+
+  module _ (q k m : ℕ) (a : DigitsAt t (i + 1) (10 * c + w) (n + 1) q k m) where
+    pub fraction-over : maxDigits < m → Spoilt t (Numeral.point neg c n) i 6 q
+    fraction-over g = onto-spoilt to-fraction (a .many g .1 neg 1)
+
+    pub fraction-rest : (r : Number) → m ≤ maxDigits → PartAt t (Numeral.fraction neg k m (m - n)) q r → PartAt t (Numeral.point neg c n) i r
+    fraction-rest r g x =
+        let u = a .few g .0 in
+        let z : m - n ≡ 1 + (m - (n + 1)) = omega (arith, u .more) in
+        onto-part t _ _ i (i + 1) r (omega arith) to-fraction (onto-part t _ _ (i + 1) q r (u .onward) (u .fraction neg 1) (subst (λ f. PartAt t (Numeral.fraction neg k m f) q r) z x))
+
+-- What a test of the byte at `i` says.
+module _ (t : Bytes) (i b : ℕ) (x : Bool) (e : b ≡ getD t i 0) (f : x ≡ isDigit b) where
+  pub digit-there : x ≡ true → T (isDigit (getD t i 0))
+  digit-there g = subst (λ b. T (isDigit b)) e (holds x (isDigit b) f g)
+
+  pub none-there : x ≡ false → T (not (isDigit (getD t i 0)))
+  none-there g = subst (λ b. T (not (isDigit b))) e (fails x (isDigit b) f g)
+
+-- The first digit.
+module _ (t : Bytes) (i : ℕ) (neg : Bool) (b : ℕ) where
+  pub zero-digit : i ≤ length t → b ≡ code "0" → T (isDigit (getD t i 0))
+      → Settled t (first neg b) i (record { negative = neg; coefficient = 0; digits = 1; fraction = 0; down = false; power = 0; end = i })
+  zero-digit h e d = onto-settled (omega arith) (λ p st. ap (λ s. at t (State.number s p st) i) (first-zero b neg e)) (digit-settles t neg i h d)
+
+  pub zero-rest : (r : Number) → b ≡ code "0" → T (not (isDigit (getD t i 0))) → PartAt t (Numeral.whole neg 0 1) i r → PartAt t (first neg b) i r
+  zero-rest r e d = onto-part t _ _ i i r (omega arith) (λ p st. ap (λ s. at t (State.number s p st) i) (first-zero b neg e) ∙ zero-whole t i neg d p st)
+
+  module _ (f : b ≡ code "0" → ⊥) (w : ℕ) (y : w ≡ b - 48) (q k m : ℕ) (a : DigitsAt t i w 1 q k m) where
+    to-whole : Onto t (first neg b) i (Numeral.whole neg w 1) i
+    to-whole p st = let g : andDigit 0 b ≡ w = omega arith in subst (λ w. at t (State.number (first neg b) p st) i ≡ at t (State.number (Numeral.whole neg w 1) p st) i) g (ap (λ s. at t (State.number s p st) i) (first-nonzero b neg f))
+
+    pub first-over : maxDigits < m → Spoilt t (first neg b) i 6 q
+    first-over g = onto-spoilt to-whole (a .many g .0 neg)
+
+    pub first-rest : (r : Number) → m ≤ maxDigits → PartAt t (Numeral.whole neg k m) q r → PartAt t (first neg b) i r
+    first-rest r g x = let u = a .few g .0 in onto-part t _ _ i i r (omega arith) to-whole (onto-part t _ _ i q r (u .onward) (u .whole neg) x)
+
+-- The whole number.
+pub opens-digit : (b : ℕ) → opensNumber b ≡ true → (b ≡ code "-" → ⊥) → isDigit b ≡ true
+opens-digit b e f = let z : opensNumber b ≡ isDigit b = rw (ne-eqb b 45 f) in sym z ∙ e
+
+module _ (t : Bytes) (i : ℕ) (h : i < length t) where
+  pub unsigned : (r : Number) → T (isDigit (getD t i 0)) → PartAt t (first false (getD t i 0)) (i + 1) r → NumberAt t i r
+  unsigned (Number.Decimal w) d x = record { onward = omega (arith, x .onward); bound = x .bound; sized = x .sized; same = λ st. value-first t i h d st ∙ x .same i st }
+  unsigned (Number.Refused k q) d x = record { some = x .some; same = λ st. value-first t i h d st ∙ x .same i st }
+
+  module _ (e : getD t i 0 ≡ code "-") where
+    pub minus-cut : length t ≤ i + 1 → Unnumbered t i 3 (i + 1)
+    minus-cut l = record { some = λ e. absurd (omega arith); same = λ st. value-minus t i h e st ∙ minus-short t (i + 1) l .same i st }
+
+    module _ (j : i + 1 < length t) where
+      pub minus-off : T (not (isDigit (getD t (i + 1) 0))) → Unnumbered t i 4 (i + 1)
+      minus-off d = record { some = λ e. absurd (omega arith); same = λ st. value-minus t i h e st ∙ minus-wrong t (i + 1) j d .same i st }
+
+      pub negative : (r : Number) → T (isDigit (getD t (i + 1) 0)) → PartAt t (first true (getD t (i + 1) 0)) (i + 1 + 1) r → NumberAt t i r
+      negative (Number.Decimal w) d x =
+          record { onward = omega (arith, x .onward); bound = x .bound; sized = x .sized; same = λ st. value-minus t i h e st ∙ minus-first t (i + 1) j d i st ∙ x .same i st }
+      negative (Number.Refused k q) d x = record { some = x .some; same = λ st. value-minus t i h e st ∙ minus-first t (i + 1) j d i st ∙ x .same i st }

@@ -1,0 +1,133 @@
+// Numbers.
+ghost use lib.Dec.{T};
+ghost use lib.ListN.{length, getD};
+ghost use mathlib.Core.Bool.{true, not};
+ghost use mathlib.Core.Path.{_≡_};
+ghost use Prim.Native.Nat.{_^_, _≤_, _<_};
+ghost use Rattle.scan.specs.Numbers.{NumberAt, opensNumber};
+ghost use Rattle.scan.specs.Numerals.{PartAt, first};
+ghost use Rattle.text.proofs.Machine.{Numeral};
+ghost use Rattle.text.specs.Bytes.{isDigit};
+ghost use Rattle.text.specs.Ceilings.{maxDigits};
+use crate::bytes::byte_at;
+use crate::bytes::is_digit;
+use crate::bytes::wide;
+use crate::digits::digits_at;
+use crate::exponent::Mantissa;
+use crate::limits::MAX_DIGITS;
+use crate::power::tail_at;
+
+// A number as it is written up to the offset `end`: `digits` digits come to `coefficient`, the last
+// `fraction` of them behind the point, times ten to the `power`, or to minus `power` if `down`.
+pub struct Written {
+    pub negative: bool,
+    pub coefficient: u64,
+    pub digits: u64,
+    pub fraction: u64,
+    pub down: bool,
+    pub power: u64,
+    pub end: usize,
+}
+
+// A number, or a refusal's number and place.
+pub enum Number {
+    Decimal(Written),
+    Refused(u64, usize),
+}
+
+// The rest of a number behind its point, before which `digits` digits come to `coefficient`.
+fn fraction_at(text: &[u8], at: usize, negative: bool, coefficient: u64, digits: u64) -> Number
+    requires { ⌜ (at ≤ length (now text)) × (digits < maxDigits) × (coefficient < 10 ^ digits) ⌝ }
+    ensures part { λ r. ⌜ PartAt (now (text .entry)) (Numeral.point negative coefficient digits) at r ⌝ }
+{
+    if text.len() <= at {
+        return Number::Refused(3, at);
+    }
+    let b = text[at];
+    if !is_digit(b) {
+        return Number::Refused(4, at);
+    }
+    let r = digits_at(text, at + 1, 10 * coefficient + wide(b - b'0'), digits + 1);
+    let end = r.end;
+    let n = r.digits;
+    if MAX_DIGITS < n {
+        return Number::Refused(6, end);
+    }
+    let m = Mantissa {
+        negative,
+        coefficient: r.coefficient,
+        digits: n,
+        fraction: n - digits,
+    };
+    tail_at(text, end, m)
+}
+
+// The rest of a number behind `digits` digits before the point that come to `coefficient`.
+fn point_at(text: &[u8], at: usize, negative: bool, coefficient: u64, digits: u64) -> Number
+    requires { ⌜ (at ≤ length (now text)) × (digits ≤ maxDigits) × (coefficient < 10 ^ digits) × T (not (isDigit (getD (now text) at 0))) ⌝ }
+    ensures part { λ r. ⌜ PartAt (now (text .entry)) (Numeral.whole negative coefficient digits) at r ⌝ }
+{
+    let b = byte_at(text, at);
+    if b != b'.' {
+        let m = Mantissa {
+            negative,
+            coefficient,
+            digits,
+            fraction: 0,
+        };
+        return tail_at(text, at, m);
+    }
+    if digits == MAX_DIGITS {
+        return Number::Refused(6, at);
+    }
+    fraction_at(text, at + 1, negative, coefficient, digits)
+}
+
+// The rest of a number behind its first digit, which is `lead`.
+fn mantissa_at(text: &[u8], at: usize, negative: bool, lead: u8) -> Number
+    requires { ⌜ (at ≤ length (now text)) × (isDigit lead ≡ true) ⌝ }
+    ensures part { λ r. ⌜ PartAt (now (text .entry)) (first negative lead) at r ⌝ }
+{
+    if lead == b'0' {
+        let b = byte_at(text, at);
+        if is_digit(b) {
+            return Number::Decimal(Written {
+                negative,
+                coefficient: 0,
+                digits: 1,
+                fraction: 0,
+                down: false,
+                power: 0,
+                end: at,
+            });
+        }
+        return point_at(text, at, negative, 0, 1);
+    }
+    let r = digits_at(text, at, wide(lead - b'0'), 1);
+    let end = r.end;
+    let n = r.digits;
+    if MAX_DIGITS < n {
+        return Number::Refused(6, end);
+    }
+    point_at(text, end, negative, r.coefficient, n)
+}
+
+// The number of `text` whose first byte, a digit or `-`, stands at `at`, as far as a number can be read.
+pub fn number_at(text: &[u8], at: usize) -> Number
+    requires { ⌜ (at < length (now text)) × (opensNumber (getD (now text) at 0) ≡ true) ⌝ }
+    ensures read { λ r. ⌜ NumberAt (now (text .entry)) at r ⌝ }
+{
+    let b = text[at];
+    let j = at + 1;
+    if b != b'-' {
+        return mantissa_at(text, j, false, b);
+    }
+    if text.len() <= j {
+        return Number::Refused(3, j);
+    }
+    let d = text[j];
+    if !is_digit(d) {
+        return Number::Refused(4, j);
+    }
+    mantissa_at(text, j + 1, true, d)
+}
