@@ -6,7 +6,7 @@ use Rattle.meaning.specs.Canonical.{putDigits, putNumber, putPower, putS
 use Rattle.text.proofs.Decimals.{strip-none, zeros-none}
 use Rattle.text.proofs.Tests.{and-left, and-right, both, le-both}
 use Rattle.text.specs.Bytes.{Bytes, from, isDigit, isNonzero, valueFrom}
-use Rattle.text.specs.Ceilings.{house, maxDigits, maxPower, maxPowerDigits, same}
+use Rattle.text.specs.Ceilings.{house, maxDigits, maxPower, maxPowerDigits}
 use Rattle.text.specs.Decimal.{Decimal, exponentOf, normal, scaled}
 use Rattle.text.specs.Numbers.{Allowed, Digits, Fraction, Minus, Number, Power, Sign, Whole}
 use borrow.Author.Tests.{le-leb, lt-leb, ltb-false, ltb-true, ne-eqb}

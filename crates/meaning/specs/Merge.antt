@@ -1,5 +1,5 @@
 -- Merge patch, in the words of RFC 7396 section 2. 01 "Merge patch".
-use Rattle.meaning.specs.Meaning.{Tree, Trees, Pairs}
+use Rattle.meaning.specs.Meaning.{Tree, Pairs}
 use Rattle.text.specs.Bytes.{Units}
 use Rattle.text.specs.Ceilings.{same}
 use Rattle.text.specs.Node.{Literal}

@@ -1,5 +1,5 @@
 -- What a string does to the answer, from behind its opening quote on, whatever it is for.
-use Prim.Native.Nat.{_<_, ℕ}
+use Prim.Native.Nat.{_<_, _≤_, ℕ}
 use Rattle.scan.specs.Answers.{Leaf, at}
 use Rattle.text.proofs.Machine.{Left, State, Use}
 use Rattle.text.specs.Bytes.{Bytes, Units, isHex, isPlain}
@@ -23,6 +23,10 @@ Refused t s i k p = (u : Use) (us : Units) → at t (s u us) i ≡ Outcome.refus
 -- The characters from `i` up to `j` are read.
 abbrev pub Read : Bytes → ℕ → ℕ → Type 0
 Read t i j = Goes t State.chars i j
+
+-- The same, where `j` is an offset of the text from `i` on.
+abbrev pub ReadTo : Bytes → ℕ → ℕ → Type 0
+ReadTo t i j = (i ≤ j) × (j ≤ length t) × Read t i j
 
 -- No plain character stands at `r`.
 abbrev pub Bare : Bytes → ℕ → Type 0

@@ -3,7 +3,7 @@ ghost use Prim.Native.Nat.{_+_, _≤_};
 ghost use mathlib.Core.Bool.{true};
 ghost use mathlib.Core.Path.{_≡_};
 ghost use lib.ListN.{length};
-ghost use Rattle.scan.specs.Strings.{Goes, Read, Bare, HexAt, four, FourAt, EscapeAt, StringAt};
+ghost use Rattle.scan.specs.Strings.{Goes, Read, ReadTo, Bare, HexAt, four, FourAt, EscapeAt, StringAt};
 use crate::bytes::byte_at;
 use crate::bytes::is_escape;
 use crate::bytes::is_hex;
@@ -28,7 +28,7 @@ fn eight(text: &[u8], i: usize) -> bool
 // An offset of `text` up to which, from `from` on, plain characters stand, a multiple of eight of them.
 fn eights(text: &[u8], from: usize) -> usize
     requires { ⌜ from ≤ length (now text) ⌝ }
-    ensures read { λ r. ⌜ (from ≤ r) × (r ≤ length (now (text .entry))) × Read (now (text .entry)) from r ⌝ }
+    ensures read { λ r. ⌜ ReadTo (now (text .entry)) from r ⌝ }
 {
     let mut i = from;
     while 8 <= text.len() - i {
@@ -43,7 +43,7 @@ fn eights(text: &[u8], from: usize) -> usize
 // The first offset of `text`, from `from` on, where no plain character stands.
 fn plain_run(text: &[u8], from: usize) -> usize
     requires { ⌜ from ≤ length (now text) ⌝ }
-    ensures read { λ r. ⌜ (from ≤ r) × (r ≤ length (now (text .entry))) × Read (now (text .entry)) from r ⌝ }
+    ensures read { λ r. ⌜ ReadTo (now (text .entry)) from r ⌝ }
     ensures bare { λ r. ⌜ Bare (now (text .entry)) r ⌝ }
 {
     if !is_plain(byte_at(text, from)) {

@@ -1,4 +1,4 @@
--- Normal form: what `zeros` and `strip` give.
+-- Normal form: what `zeros` and `strip` give, and its exponent.
 use Prim.Native.Nat.{_%_, _*_, _+_, _-_, _/_, _<_, _^_, _≤_, suc, zero, ℕ}
 use Rattle.text.specs.Decimal.{Decimal, exponentOf, normal, scaled, strip, zeros}
 use borrow.Author.Tests.{eqb-false, eqb-true, ne-eqb}

@@ -7,7 +7,6 @@ use lib.Dec.{T, T-not, eqb, eqb→eq, leb, leb→le, le→leb, not-T}
 use mathlib.Core.Bool.{Bool, _&&_, _||_, false, not, true}
 use mathlib.Core.Path.{_≡_, refl, subst, subst⁻¹, sym}
 use native.Mathlib.Omega.{arith}
-use Rattle.text.specs.Grammar as g
 
 pub is-true : {a : Bool} → a ≡ true → T a
 is-true e = subst T (sym e) tt

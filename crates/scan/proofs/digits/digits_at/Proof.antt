@@ -1,3 +1,4 @@
+-- The digits before `i` are `n` and come to `c`; a 19th ends the loop, so nothing overflows.
 use Prim.Native.Nat.{_-_, _≤_}
 use Rattle.scan.proofs.Counts.{counted-many, counted-none, counted-one, few-small}
 use Rattle.scan.proofs.Numerals.{digit-bounds, no-digit}

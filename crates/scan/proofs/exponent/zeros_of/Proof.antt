@@ -1,3 +1,4 @@
+-- The zeros to count are the `z` taken off so far and those that `c` still ends in.
 use Prim.Native.Nat.{_+_}
 use Rattle.scan.proofs.Exponents.{zeros-nought, zeros-step}
 use Rattle.scan.proofs.exponent.zeros_of.Statement.{statement}

@@ -1,3 +1,4 @@
+-- The `k` exponent digits before `i` come to `e`, and each of them was allowed to stand there.
 use Prim.Native.Nat.{_-_}
 use Rattle.scan.proofs.Counts.{Powered, powered-end, powered-many, powered-none, powered-one}
 use Rattle.scan.proofs.Numerals.{digit-bounds, no-digit}

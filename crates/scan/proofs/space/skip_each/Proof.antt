@@ -1,3 +1,4 @@
+-- Only whitespace stands before `i`.
 use Rattle.scan.proofs.Steps.{holds}
 use Rattle.scan.proofs.Spaces.{skipped-none, skipped-more}
 use Rattle.scan.specs.Space.{Skipped}

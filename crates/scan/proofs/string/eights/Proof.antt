@@ -1,15 +1,16 @@
+-- While the loop runs, everything before `i` is read.
 use Rattle.scan.proofs.StringLaws.{read-none, then}
-use Rattle.scan.specs.Strings.{Read}
+use Rattle.scan.specs.Strings.{ReadTo}
 use lib.ListN.{length}
 use borrow.Author.Tests.{not-false}
 use native.Mathlib.Omega.{arith}
-use Prim.Native.Nat.{_≤_, _-_}
+use Prim.Native.Nat.{_-_}
 use borrow.Author.Needs.{needs}
 use Rattle.scan.proofs.string.eights.Statement.{statement}
 use Rattle.scan.proofs.string.eights.Tie as tie
 
 abbrev Inv-loop : tie.InvT-loop
-Inv-loop text from i₀ i = (from ≤ i) × (i ≤ length text) × Read text from i
+Inv-loop text from i₀ i = ReadTo text from i
 
 abbrev μ-loop : tie.MeasureT-loop
 μ-loop text from i₀ i = length text - i

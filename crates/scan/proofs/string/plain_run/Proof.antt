@@ -1,19 +1,20 @@
+-- Eight at a time and then one by one, everything before `i` is read.
 use Rattle.scan.proofs.Steps.{holds}
 use Rattle.scan.proofs.StringLaws.{read-none, then, plain-one}
-use Rattle.scan.specs.Strings.{Read}
+use Rattle.scan.specs.Strings.{ReadTo}
 use Rattle.text.specs.Bytes.{isPlain}
 use mathlib.Core.Bool.{false}
 use lib.ListN.{length}
 use borrow.Author.Tests.{not-true, not-false}
 use native.Mathlib.Omega.{arith}
 use mathlib.Core.Path.{_≡_, sym, _∙_, subst}
-use Prim.Native.Nat.{_≤_, _-_}
+use Prim.Native.Nat.{_-_}
 use borrow.Author.Needs.{needs}
 use Rattle.scan.proofs.string.plain_run.Statement.{statement}
 use Rattle.scan.proofs.string.plain_run.Tie as tie
 
 abbrev Inv-loop : tie.InvT-loop
-Inv-loop text from i₀ i = (from ≤ i) × (i ≤ length text) × Read text from i
+Inv-loop text from i₀ i = ReadTo text from i
 
 abbrev μ-loop : tie.MeasureT-loop
 μ-loop text from i₀ i = length text - i

@@ -1,3 +1,4 @@
+-- The first `k` bytes of the word stand before `i`: the answer is still that of the word's rest there.
 use Rattle.scan.proofs.WordLaws.{word-more, word-wrong, word-short, word-end}
 use Rattle.scan.specs.Words.{due}
 use Rattle.scan.specs.Answers.{at}
