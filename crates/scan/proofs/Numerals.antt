@@ -2,7 +2,7 @@
 use Prim.Native.Char.{code}
 use Prim.Native.Nat.{_+_, _-_, _<_, _≤_, suc, ℕ}
 use Rattle.scan.proofs.Steps.{Like, Within, alike, differs, fail, finish, short, step, within}
-use Rattle.scan.specs.Answers.{at, loose}
+use Rattle.scan.specs.Answers.{at, judging, loose, shut}
 use Rattle.scan.specs.Numbers.{Sized, decimalOf}
 use Rattle.scan.specs.Numerals.{Onto, Settled, Sound, Spoilt, behindFraction, behindMark, behindPower, behindSign, first, passes, writtenOf}
 use Rattle.scan.specs.declared.exponent.Mantissa.{Mantissa}
@@ -29,18 +29,14 @@ onto-settled h x y = record { onward = omega (arith, y .onward); bound = y .boun
 pub onto-spoilt : {t : Bytes} {s s′ : Numeral} {i j k q : ℕ} → Onto t s i s′ j → Spoilt t s′ j k q → Spoilt t s i k q
 onto-spoilt x y = record { some = y .some; same = λ p st. x p st ∙ y .same p st }
 
--- The gates of digits and of exponents, where names are not judged.
-or-false : (a : Bool) → a || false ≡ a
-or-false true = refl
-or-false false = refl
-
-digits-open : (n : ℕ) → n ≤ maxDigits → T (loose (Gate.digits n))
-unfolding without house numberOf
-digits-open n h = subst⁻¹ (λ x. T (x || false)) (le-leb n maxDigits h) tt
+-- The gate of digits.
+digits-open : (n : ℕ) → n ≤ maxDigits → T (shut (Gate.digits n))
+unfolding judging house
+digits-open n h = subst⁻¹ T (le-leb n maxDigits h) tt
 
 digits-shut : (n : ℕ) → maxDigits < n → T (not (loose (Gate.digits n)))
-unfolding without house numberOf
-digits-shut n h = subst⁻¹ (λ x. T (not (x || false))) (lt-leb n maxDigits h) tt
+unfolding judging house
+digits-shut n h = subst⁻¹ (λ x. T (not x)) (lt-leb n maxDigits h) tt
 
 -- A number may end where it stands.
 module _ (t : Bytes) where
@@ -169,48 +165,48 @@ module _ (t : Bytes) (i : ℕ) (h : i < length t) where
       gate = Gate.power (m .coefficient) (m .digits) (m .fraction) down (andDigit e here) (suc k)
 
       pub power-digit : T (passes m down (andDigit e here) k) → Onto t (behindPower m down e k) i (behindPower m down (andDigit e here) (k + 1)) (i + 1)
-      unfolding move numberMove passes without numberOf
+      unfolding move numberMove passes judging
       power-digit q p st = step t (State.number (behindPower m down e k) p st) i h (Took.yes d (rw (add-one k) (by (ltb k 2) q)))
         where
           on : State
           on = State.number (behindPower m down (andDigit e here) (suc k)) p st
 
-          by : (x : Bool) → T (x || house gate) → Took loose (Move.when x (Move.go on) (Move.ask gate on)) on
+          by : (x : Bool) → T (x || house gate) → Took shut (Move.when x (Move.go on) (Move.ask gate on)) on
           by true q = Took.yes tt Took.go
-          by false q = Took.no tt (Took.ask (subst⁻¹ T (or-false (house gate)) q))
+          by false q = Took.no tt (Took.ask q)
 
       pub power-many : T (not (passes m down (andDigit e here) k)) → Spoilt t (behindPower m down e k) i 7 i
-      unfolding move numberMove passes without numberOf
+      unfolding move numberMove passes judging numberOf
       power-many q = record { some = λ e. absurd (omega arith); same = λ p st. fail t (State.number (behindPower m down e k) p st) i h (Fault.yes d (by (State.number (behindPower m down (andDigit e here) (suc k)) p st) (ltb k 2) q)) }
         where
           by : (on : State) (x : Bool) → T (not (x || house gate)) → Fault loose (Move.when x (Move.go on) (Move.ask gate on)) 7
           by on true q = absurd q
-          by on false q = Fault.no tt (Fault.ask (subst⁻¹ (λ x. T (not x)) (or-false (house gate)) q))
+          by on false q = Fault.no tt (Fault.ask q)
 
     pub value-first : (st : Stack) → at t (State.value st) i ≡ at t (State.number (first false here) i st) (i + 1)
     unfolding move valueMove
     value-first st = step t (State.value st) i h (by (zero? here))
       where
-        by : Zero here → Took loose (valueMove st i here) (State.number (first false here) i st)
-        by (Zero.is-zero e) = rw (first-zero here false e) (subst⁻¹ (λ b. Took loose (valueMove st i b) (State.number (Numeral.zero false) i st)) e (Took.no tt (Took.no tt (Took.yes tt Took.go))))
+        by : Zero here → Took shut (valueMove st i here) (State.number (first false here) i st)
+        by (Zero.is-zero e) = rw (first-zero here false e) (subst⁻¹ (λ b. Took shut (valueMove st i b) (State.number (Numeral.zero false) i st)) e (Took.no tt (Took.no tt (Took.yes tt Took.go))))
         by (Zero.not-zero f) = rw (first-nonzero here false f) (Took.yes (nonzero-of here d f) Took.go)
 
     pub minus-first : Onto t Numeral.minus i (first true here) (i + 1)
     unfolding move numberMove
     minus-first p st = step t (State.number Numeral.minus p st) i h (by (zero? here))
       where
-        by : Zero here → Took loose (numberMove Numeral.minus p st i here) (State.number (first true here) p st)
-        by (Zero.is-zero e) = rw (first-zero here true e) (subst⁻¹ (λ b. Took loose (numberMove Numeral.minus p st i b) (State.number (Numeral.zero true) p st)) e (Took.no tt (Took.yes tt Took.go)))
+        by : Zero here → Took shut (numberMove Numeral.minus p st i here) (State.number (first true here) p st)
+        by (Zero.is-zero e) = rw (first-zero here true e) (subst⁻¹ (λ b. Took shut (numberMove Numeral.minus p st i b) (State.number (Numeral.zero true) p st)) e (Took.no tt (Took.yes tt Took.go)))
         by (Zero.not-zero f) = rw (first-nonzero here true f) (Took.yes (nonzero-of here d f) Took.go)
 
   pub value-minus : here ≡ code "-" → (st : Stack) → at t (State.value st) i ≡ at t (State.number Numeral.minus i st) (i + 1)
   unfolding move valueMove
-  value-minus e st = step t (State.value st) i h (subst⁻¹ (λ b. Took loose (valueMove st i b) (State.number Numeral.minus i st)) e (Took.no tt (Took.yes tt Took.go)))
+  value-minus e st = step t (State.value st) i h (subst⁻¹ (λ b. Took shut (valueMove st i b) (State.number Numeral.minus i st)) e (Took.no tt (Took.yes tt Took.go)))
 
   pub whole-point : (neg : Bool) (c n : ℕ) → here ≡ code "." → n < maxDigits → Onto t (Numeral.whole neg c n) i (Numeral.point neg c n) (i + 1)
   unfolding move numberMove
   whole-point neg c n e l p st =
-      step t (State.number (Numeral.whole neg c n) p st) i h (subst⁻¹ (λ b. Took loose (numberMove (Numeral.whole neg c n) p st i b) (State.number (Numeral.point neg c n) p st)) e (Took.no tt (Took.yes tt (Took.ask (digits-open (suc n) (omega arith))))))
+      step t (State.number (Numeral.whole neg c n) p st) i h (subst⁻¹ (λ b. Took shut (numberMove (Numeral.whole neg c n) p st i b) (State.number (Numeral.point neg c n) p st)) e (Took.no tt (Took.yes tt (Took.ask (digits-open (suc n) (omega arith))))))
 
   pub point-many : (neg : Bool) (c n : ℕ) → here ≡ code "." → maxDigits ≤ n → Spoilt t (Numeral.whole neg c n) i 6 i
   unfolding move numberMove numberOf
@@ -223,11 +219,11 @@ module _ (t : Bytes) (i : ℕ) (h : i < length t) where
 
   pub mark-plus : (m : Mantissa) → here ≡ code "+" → Onto t (behindMark m) i (behindSign m false) (i + 1)
   unfolding move numberMove
-  mark-plus m e p st = step t (State.number (behindMark m) p st) i h (subst⁻¹ (λ b. Took loose (numberMove (behindMark m) p st i b) (State.number (behindSign m false) p st)) e (Took.no tt (Took.yes tt Took.go)))
+  mark-plus m e p st = step t (State.number (behindMark m) p st) i h (subst⁻¹ (λ b. Took shut (numberMove (behindMark m) p st i b) (State.number (behindSign m false) p st)) e (Took.no tt (Took.yes tt Took.go)))
 
   pub mark-minus : (m : Mantissa) → here ≡ code "-" → Onto t (behindMark m) i (behindSign m true) (i + 1)
   unfolding move numberMove
-  mark-minus m e p st = step t (State.number (behindMark m) p st) i h (subst⁻¹ (λ b. Took loose (numberMove (behindMark m) p st i b) (State.number (behindSign m true) p st)) e (Took.no tt (Took.no tt (Took.yes tt Took.go))))
+  mark-minus m e p st = step t (State.number (behindMark m) p st) i h (subst⁻¹ (λ b. Took shut (numberMove (behindMark m) p st i b) (State.number (behindSign m true) p st)) e (Took.no tt (Took.no tt (Took.yes tt Took.go))))
 
   -- Bytes that cannot stand.
   module _ (d : T (not (isDigit here))) where

@@ -2,7 +2,7 @@
 use Prim.Native.Char.{code}
 use Prim.Native.Nat.{_+_, _<_, _≤_, ℕ}
 use Rattle.scan.proofs.Steps.{step}
-use Rattle.scan.specs.Answers.{loose}
+use Rattle.scan.specs.Answers.{shut}
 use Rattle.scan.specs.Space.{Skipped, Spaced}
 use Rattle.text.proofs.Machine.{Frame, State, afterMove, memberMove, move, otherMove, valueMove}
 use Rattle.text.proofs.Run.{Took}
@@ -16,7 +16,7 @@ use mathlib.Core.List.{[], _∷_}
 use mathlib.Core.Path.{_∙_, _≡_, refl}
 use native.Mathlib.Omega.{arith}
 
-stays : {s : State} → Spaced s → (n b : ℕ) → T (isSpace b) → Took loose (move s n b) s
+stays : {s : State} → Spaced s → (n b : ℕ) → T (isSpace b) → Took shut (move s n b) s
 unfolding move valueMove otherMove memberMove afterMove
 stays Spaced.value n b p =
     Took.no (space-not isNonzero b p tt tt tt tt) (Took.no (space-not (λ b. eqb b (code "-")) b p tt tt tt tt) (Took.no (space-not (λ b. eqb b (code "0")) b p tt tt tt tt) (Took.yes p Took.go)))

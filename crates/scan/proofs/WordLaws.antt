@@ -1,13 +1,12 @@
 -- What each byte of a fixed word does to the answer.
 use Prim.Native.Nat.{_+_, _<_, _≤_, ℕ}
 use Rattle.scan.proofs.Steps.{differs, fail, short, step}
-use Rattle.scan.specs.Answers.{at}
+use Rattle.scan.specs.Answers.{at, refused}
 use Rattle.scan.specs.Words.{due}
 use Rattle.text.proofs.Machine.{Stack, State, move, wordState}
 use Rattle.text.proofs.Run.{Fault, Took, isDone}
 use Rattle.text.specs.Bytes.{Bytes}
 use Rattle.text.specs.Node.{Literal, Node}
-use Rattle.text.specs.Verdict.{Outcome}
 use lib.Dec.{T, eqb, eqb-refl}
 use lib.ListN.{drop, drop-of-length-le, getD, length}
 use lib.Seq.{drop-cons}
@@ -34,12 +33,12 @@ module _ (t w : Bytes) (i k : ℕ) (h : k < length w) where
       ∙ step t (State.literal (getD w k 0) (drop (k + 1) w) v a st) i l (Took.yes (subst⁻¹ (λ b. T (eqb b (getD w k 0))) e (eqb-refl (getD w k 0))) Took.go)
       ∙ ap (λ s. at t s (i + 1)) (due-word (drop (k + 1) w) v a st i)
 
-  pub word-wrong : i < length t → (getD t i 0 ≡ getD w k 0 → ⊥) → (v : Literal) (a : ℕ) (st : Stack) → at t (due (drop k w) v a st i) i ≡ Outcome.refused 4 i
+  pub word-wrong : i < length t → (getD t i 0 ≡ getD w k 0 → ⊥) → (v : Literal) (a : ℕ) (st : Stack) → at t (due (drop k w) v a st i) i ≡ refused 4 i
   unfolding move
   word-wrong l f v a st =
       ap (λ s. at t s i) (wanted v a st) ∙ fail t (State.literal (getD w k 0) (drop (k + 1) w) v a st) i l (Fault.no (differs _ _ f) Fault.bad)
 
-  pub word-short : length t ≤ i → (v : Literal) (a : ℕ) (st : Stack) → at t (due (drop k w) v a st i) i ≡ Outcome.refused 3 i
+  pub word-short : length t ≤ i → (v : Literal) (a : ℕ) (st : Stack) → at t (due (drop k w) v a st i) i ≡ refused 3 i
   unfolding isDone
   word-short l v a st =
       ap (λ s. at t s i) (wanted v a st) ∙ short t (State.literal (getD w k 0) (drop (k + 1) w) v a st) i l tt

@@ -1,7 +1,7 @@
 -- What the number leaf answers.
 use Prim.Native.Char.{code}
 use Prim.Native.Nat.{_<_, _^_, _≤_, ℕ}
-use Rattle.scan.specs.Answers.{at}
+use Rattle.scan.specs.Answers.{at, refused}
 use Rattle.scan.specs.declared.number.Number.{Number}
 use Rattle.scan.specs.declared.number.Written.{Written}
 use Rattle.text.proofs.Machine.{Stack, State}
@@ -9,7 +9,6 @@ use Rattle.text.specs.Bytes.{Bytes, isDigit}
 use Rattle.text.specs.Ceilings.{maxDigits, maxPower}
 use Rattle.text.specs.Decimal.{Decimal, normal}
 use Rattle.text.specs.Node.{Node}
-use Rattle.text.specs.Verdict.{Outcome}
 use lib.Dec.{eqb}
 use lib.ListN.{length}
 use mathlib.Core.Bool.{Bool, _||_}
@@ -40,7 +39,7 @@ pub record Numbered (t : Bytes) (i : ℕ) (w : Written) : Type 0 where
 -- The value that begins at `i` is refused.
 pub record Unnumbered (t : Bytes) (i k p : ℕ) : Type 0 where
   pub some : k ≡ 0 → ⊥
-  pub same : (st : Stack) → at t (State.value st) i ≡ Outcome.refused k p
+  pub same : (st : Stack) → at t (State.value st) i ≡ refused k p
 
 abbrev pub NumberAt : Bytes → ℕ → Number → Type 0
 NumberAt t i (Number.Decimal w) = Numbered t i w

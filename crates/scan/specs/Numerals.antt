@@ -1,7 +1,7 @@
 -- What the parts of the number leaf answer: each says how a number goes on behind what was read of it.
 use Prim.Native.Char.{code}
 use Prim.Native.Nat.{_+_, _-_, _<_, _^_, _≤_, suc, ℕ}
-use Rattle.scan.specs.Answers.{at}
+use Rattle.scan.specs.Answers.{at, refused}
 use Rattle.scan.specs.Numbers.{Sized, decimalOf}
 use Rattle.scan.specs.declared.number.Number.{Number}
 use Rattle.scan.specs.declared.number.Written.{Written}
@@ -11,7 +11,6 @@ use Rattle.text.proofs.Machine.{Numeral, Stack, State}
 use Rattle.text.specs.Bytes.{Bytes, isDigit}
 use Rattle.text.specs.Ceilings.{Gate, house, maxDigits}
 use Rattle.text.specs.Node.{Node}
-use Rattle.text.specs.Verdict.{Outcome}
 use lib.Dec.{T, eqb, ltb}
 use lib.ListN.{getD, length}
 use mathlib.Core.Bool.{Bool, _||_, cond, not}
@@ -56,7 +55,7 @@ pub record Settled (t : Bytes) (s : Numeral) (i : ℕ) (w : Written) : Type 0 wh
 -- It is refused.
 pub record Spoilt (t : Bytes) (s : Numeral) (i k q : ℕ) : Type 0 where
   pub some : k ≡ 0 → ⊥
-  pub same : (p : ℕ) (st : Stack) → at t (State.number s p st) i ≡ Outcome.refused k q
+  pub same : (p : ℕ) (st : Stack) → at t (State.number s p st) i ≡ refused k q
 
 abbrev pub PartAt : Bytes → Numeral → ℕ → Number → Type 0
 PartAt t s i (Number.Decimal w) = Settled t s i w

@@ -1,10 +1,9 @@
 -- What a fixed word does to the answer.
 use Prim.Native.Nat.{_+_, ℕ}
-use Rattle.scan.specs.Answers.{Leaf, at}
+use Rattle.scan.specs.Answers.{Leaf, at, refused}
 use Rattle.text.proofs.Machine.{Stack, State}
 use Rattle.text.specs.Bytes.{Bytes}
 use Rattle.text.specs.Node.{Literal, Node}
-use Rattle.text.specs.Verdict.{Outcome}
 use lib.ListN.{drop}
 use mathlib.Core.List.{[], _∷_}
 use mathlib.Core.Path.{_≡_}
@@ -19,4 +18,4 @@ abbrev pub WordAt : Bytes → Bytes → ℕ → ℕ → ℕ → Type 0
 WordAt t w i =
     Leaf t i
     (λ j. (v : Literal) (a : ℕ) (st : Stack) → at t (due (drop 1 w) v a st (i + 1)) (i + 1) ≡ at t (State.after st (Node.literal a j v)) j)
-    (λ k p. (v : Literal) (a : ℕ) (st : Stack) → at t (due (drop 1 w) v a st (i + 1)) (i + 1) ≡ Outcome.refused k p)
+    (λ k p. (v : Literal) (a : ℕ) (st : Stack) → at t (due (drop 1 w) v a st (i + 1)) (i + 1) ≡ refused k p)

@@ -3,7 +3,7 @@ ghost use Prim.Native.Nat.{_+_, _≤_};
 ghost use mathlib.Core.Bool.{true};
 ghost use mathlib.Core.Path.{_≡_};
 ghost use lib.ListN.{length};
-ghost use Rattle.scan.specs.Strings.{Goes, Read, ReadTo, Bare, HexAt, four, FourAt, EscapeAt, StringAt};
+ghost use Rattle.scan.specs.Strings.{Bare, EscapeAt, FourAt, Goes, HexAt, Hexed, Read, ReadTo, StringAt, four};
 use crate::bytes::byte_at;
 use crate::bytes::is_escape;
 use crate::bytes::is_hex;
@@ -75,7 +75,7 @@ fn hex_at(text: &[u8], i: usize) -> u64
 // Whether four hexadecimal digits stand in `text` from `i` on.
 fn four_hex(text: &[u8], i: usize) -> bool
     requires { ⌜ i + 4 ≤ length (now text) ⌝ }
-    ensures read { λ r. ⌜ (r ≡ true → Goes (now (text .entry)) four i (i + 4)) ⌝ }
+    ensures read { λ r. ⌜ (r ≡ true → Goes (now (text .entry)) Hexed four i (i + 4)) ⌝ }
 {
     is_hex(text[i]) & is_hex(text[i + 1]) & is_hex(text[i + 2]) & is_hex(text[i + 3])
 }

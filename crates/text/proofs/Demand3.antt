@@ -211,7 +211,7 @@ place-longest (Verdict.wrong l most f) = most
 place-longest (Verdict.over l most v) = most
 
 -- ... and its number is one of 3 to 9.
-run-range : {t : Bytes} {s : State} {i n P : ℕ} → Run house s i t (Outcome.refused n P) → (3 ≤ n) × (n ≤ 9)
+pub run-range : {C : Ceilings} {t : Bytes} {s : State} {i n P : ℕ} → Run C s i t (Outcome.refused n P) → (3 ≤ n) × (n ≤ 9)
 run-range (Run.short f) = omega arith
 run-range (Run.on k ρ) = run-range ρ
 run-range (Run.off f) = fault-range f

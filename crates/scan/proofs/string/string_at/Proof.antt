@@ -30,7 +30,7 @@ add-t11 c = search needs
 
 returns : tie.Need-returns Inv-loop μ-loop
 returns c =
-    record { good = λ e. (omega arith, omega arith, quote-ends _ _ (c .before .before .loop-test .taken) (c .before .before .before .loop .inv .0 .2) (c .if1 .taken)); bad = λ f. absurd (f refl) }
+    record { good = λ e. (omega arith, omega arith, (_, refl, quote-ends _ _ (c .before .before .loop-test .taken) (c .before .before .before .loop .inv .0 .2) (c .if1 .taken))); bad = λ f. absurd (f refl) }
 
 returns-2 : tie.Need-returns-2 Inv-loop μ-loop
 returns-2 c =

@@ -1,0 +1,24 @@
+-- The laws that the functions' proofs cite, and what other crates may rely on.
+pub mod Membership
+pub mod Sorting
+pub mod Walks
+pub mod Linking
+pub mod Framing
+pub mod Ordering
+pub mod Naming
+pub mod Lineage
+pub mod RowLaws
+pub mod Counting
+pub mod Laying
+pub mod Restoring
+pub mod Turning
+pub mod Mingling
+pub mod MergeTurns
+pub mod Halving
+pub mod Looking
+pub mod Earliness
+pub mod Pairing
+pub mod Neighbouring
+pub mod Quoting
+pub mod Climbing
+pub mod Chaining

@@ -1,0 +1,49 @@
+// Names of a text, compared where they stand.
+ghost use Prim.Native.Nat.{_<_};
+ghost use Rattle.members.specs.Names.{nameAt};
+ghost use Rattle.names.specs.Order.{order};
+ghost use lib.Dec.{eqb};
+ghost use lib.ListN.{length};
+ghost use mathlib.Core.Bool.{true};
+ghost use mathlib.Core.Path.{_≡_};
+use names::compare::compare;
+
+// 0 if the name whose opening quote stands at `p` comes before the one at `q`, 1 if they are equal, 2 if
+// it comes behind it.
+pub fn compare_at(text: &[u8], p: usize, q: usize) -> u64
+    requires { ⌜ (p < length (now text)) × (q < length (now text)) ⌝ }
+    ensures { λ z. ⌜ z ≡ order (nameAt (now (text .entry)) p) (nameAt (now (text .entry)) q) ⌝ }
+{
+    let i = p + 1;
+    let j = q + 1;
+    compare(&text[i..], &text[j..])
+}
+
+// Whether those two names differ by their first bytes.
+fn differ_at_once(text: &[u8], p: usize, q: usize) -> bool
+    requires { ⌜ (p < length (now text)) × (q < length (now text)) ⌝ }
+    ensures { λ z. ⌜ (z ≡ true → nameAt (now (text .entry)) p ≡ nameAt (now (text .entry)) q → ⊥) ⌝ }
+{
+    let i = p + 1;
+    let j = q + 1;
+    if text.len() <= i {
+        return false;
+    }
+    if text.len() <= j {
+        return false;
+    }
+    let x = text[i];
+    let y = text[j];
+    !(x == y) & !(x == b'\\') & !(y == b'\\')
+}
+
+// Whether they are equal.
+pub fn same_at(text: &[u8], p: usize, q: usize) -> bool
+    requires { ⌜ (p < length (now text)) × (q < length (now text)) ⌝ }
+    ensures { λ z. ⌜ z ≡ eqb (order (nameAt (now (text .entry)) p) (nameAt (now (text .entry)) q)) 1 ⌝ }
+{
+    if differ_at_once(text, p, q) {
+        return false;
+    }
+    compare_at(text, p, q) == 1
+}

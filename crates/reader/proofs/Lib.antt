@@ -1,0 +1,10 @@
+pub mod Answering
+pub mod Behind
+pub mod Closing
+pub mod Laying
+pub mod Loop
+pub mod Records
+pub mod Repeated
+pub mod Rows
+pub mod Settling
+pub mod Tokens

@@ -1,0 +1,41 @@
+//! The tests of nib_read, one file for each kind of text.
+
+mod bytes;
+mod compare;
+mod decided;
+mod depth;
+mod examples;
+mod fences;
+mod generated;
+mod long;
+mod names;
+mod numbers;
+mod objects;
+mod short;
+mod spaces;
+mod strings;
+mod tables;
+mod twins;
+
+use crate::group::Test;
+
+pub fn tests() -> Vec<Test> {
+    let kinds: [&[Test]; 15] = [
+        &examples::TESTS,
+        &decided::TESTS,
+        &short::TESTS,
+        &bytes::TESTS,
+        &spaces::TESTS,
+        &strings::TESTS,
+        &numbers::TESTS,
+        &depth::TESTS,
+        &names::TESTS,
+        &twins::TESTS,
+        &objects::TESTS,
+        &generated::TESTS,
+        &tables::TESTS,
+        &fences::TESTS,
+        &long::TESTS,
+    ];
+    kinds.concat()
+}
