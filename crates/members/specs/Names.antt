@@ -8,6 +8,7 @@ use Rattle.text.specs.Table.{Words}
 use lib.Dec.{eqb, ltb}
 use lib.ListN.{drop, length}
 use mathlib.Core.Bool.{Bool, cond, false, true}
+use mathlib.Core.Path.{_≡_}
 
 -- The units of the name whose opening quote stands at `q`.
 abbrev pub nameAt : Bytes → ℕ → Units
@@ -33,3 +34,7 @@ before name a b = cond (ahead name a b) true (cond (eqb (order (name a) (name b)
 -- The order of the members of a table.
 abbrev pub inOrder : Bytes → Words → ℕ → ℕ → Bool
 inOrder t w = before (nameOf t w)
+
+-- Characters from `i` on and from `j` on differ if those behind the first of each do.
+abbrev pub Onward : Bytes → ℕ → ℕ → Type 0
+Onward t i j = (units (drop (i + 1) t) ≡ units (drop (j + 1) t) → ⊥) → units (drop i t) ≡ units (drop j t) → ⊥
