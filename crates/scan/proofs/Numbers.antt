@@ -1,22 +1,23 @@
 -- The number leaf's answers, part by part.
 use Prim.Native.Char.{code}
-use Prim.Native.Nat.{_*_, _+_, _-_, _<_, _≤_, ℕ}
+use Prim.Native.Nat.{_*_, _+_, _-_, _<_, _^_, _≤_, ℕ}
 use Rattle.scan.proofs.Numerals.{digit-settles, first-nonzero, first-zero, fraction-mark, mark-digit, mark-minus, mark-plus, minus-first, minus-short, minus-wrong, no-point, onto-settled, onto-spoilt, point-digit, point-many, settle-fraction, sign-digit, value-first, value-minus, whole-point, zero-whole}
 use Rattle.scan.proofs.Steps.{differs, fails, holds, stands}
 use Rattle.scan.specs.Answers.{at}
 use Rattle.scan.specs.Numbers.{NumberAt, Unnumbered, opensNumber}
-use Rattle.scan.specs.Numerals.{DigitsAt, Onto, PartAt, Settled, Sound, Spoilt, behindFraction, behindMark, behindPower, behindSign, first, writtenOf}
+use Rattle.scan.specs.Numerals.{BehindMinus, DigitsAt, Onto, PartAt, Settled, Sound, Spoilt, WholeAt, behindFraction, behindMark, behindPower, behindSign, first, writtenOf}
 use Rattle.scan.specs.declared.exponent.Mantissa.{Mantissa}
 use Rattle.scan.specs.declared.number.Number.{Number}
 use Rattle.text.proofs.Digits.{andDigit}
 use Rattle.text.proofs.Machine.{Numeral, State}
+use Rattle.text.proofs.Tests.{is-true}
 use Rattle.text.specs.Bytes.{Bytes, isDigit, isE}
 use Rattle.text.specs.Ceilings.{maxDigits}
-use borrow.Author.Tests.{ne-eqb}
-use lib.Dec.{T}
+use borrow.Author.Tests.{eq-eqb, ne-eqb}
+use lib.Dec.{T, T-not, eqb}
 use lib.ListN.{getD, length}
 use mathlib.Core.Bool.{Bool, false, not, true}
-use mathlib.Core.Path.{_∙_, _≡_, ap, subst, subst⁻¹, sym}
+use mathlib.Core.Path.{_∙_, _≡_, ap, refl, subst, subst⁻¹, sym}
 use native.Mathlib.Omega.{arith}
 
 pub onto-part : (t : Bytes) (s s′ : Numeral) (i j : ℕ) (r : Number) → i ≤ j → Onto t s i s′ j → PartAt t s′ j r → PartAt t s i r
@@ -93,41 +94,84 @@ module _ (t : Bytes) (i b : ℕ) (x : Bool) (e : b ≡ getD t i 0) (f : x ≡ is
 
 -- The first digit.
 module _ (t : Bytes) (i : ℕ) (neg : Bool) (b : ℕ) where
-  pub zero-digit : i ≤ length t → b ≡ code "0" → T (isDigit (getD t i 0))
+  zero-digit : i ≤ length t → b ≡ code "0" → T (isDigit (getD t i 0))
       → Settled t (first neg b) i (record { negative = neg; coefficient = 0; digits = 1; fraction = 0; down = false; power = 0; end = i })
   zero-digit h e d = onto-settled (omega arith) (λ p st. ap (λ s. at t (State.number s p st) i) (first-zero b neg e)) (digit-settles t neg i h d)
 
-  pub zero-rest : (r : Number) → b ≡ code "0" → T (not (isDigit (getD t i 0))) → PartAt t (Numeral.whole neg 0 1) i r → PartAt t (first neg b) i r
+  zero-rest : (r : Number) → b ≡ code "0" → T (not (isDigit (getD t i 0))) → PartAt t (Numeral.whole neg 0 1) i r → PartAt t (first neg b) i r
   zero-rest r e d = onto-part t _ _ i i r (omega arith) (λ p st. ap (λ s. at t (State.number s p st) i) (first-zero b neg e) ∙ zero-whole t i neg d p st)
 
   module _ (f : b ≡ code "0" → ⊥) (w : ℕ) (y : w ≡ b - 48) (q k m : ℕ) (a : DigitsAt t i w 1 q k m) where
     to-whole : Onto t (first neg b) i (Numeral.whole neg w 1) i
     to-whole p st = let g : andDigit 0 b ≡ w = omega arith in subst (λ w. at t (State.number (first neg b) p st) i ≡ at t (State.number (Numeral.whole neg w 1) p st) i) g (ap (λ s. at t (State.number s p st) i) (first-nonzero b neg f))
 
-    pub first-over : maxDigits < m → Spoilt t (first neg b) i 6 q
+    first-over : maxDigits < m → Spoilt t (first neg b) i 6 q
     first-over g = onto-spoilt to-whole (a .many g .0 neg)
 
-    pub first-rest : (r : Number) → m ≤ maxDigits → PartAt t (Numeral.whole neg k m) q r → PartAt t (first neg b) i r
+    first-rest : (r : Number) → m ≤ maxDigits → PartAt t (Numeral.whole neg k m) q r → PartAt t (first neg b) i r
     first-rest r g x = let u = a .few g .0 in onto-part t _ _ i i r (omega arith) to-whole (onto-part t _ _ i q r (u .onward) (u .whole neg) x)
 
+-- The digits before the point.
+pub whole-run : {t : Bytes} {i b w j d m : ℕ} → (b ≡ code "0" → ⊥) → w ≡ b - code "0" → DigitsAt t i w 1 j d m → WholeAt t i b j d m
+whole-run {t} {i} {j = j} {d} {m} f e x = WholeAt.run f (subst (λ w. DigitsAt t i w 1 j d m) e x)
+
+module _ (t : Bytes) (i b : ℕ) (h : i ≤ length t) where
+  pub whole-over : (neg : Bool) (j d m : ℕ) → WholeAt t i b j d m → maxDigits < m → Spoilt t (first neg b) i 6 j
+  whole-over neg j d m (WholeAt.zero e f g k) l = absurd (omega arith)
+  whole-over neg j d m (WholeAt.run e x) l = first-over t i neg b e (b - code "0") refl j d m x l
+
+  pub whole-asks : (j d m : ℕ) → WholeAt t i b j d m → m ≤ maxDigits → (j ≤ length t) × (d < 10 ^ m)
+  whole-asks j d m (WholeAt.zero e f g k) l = (omega arith, subst⁻¹ (λ d. d < 10 ^ m) g (subst⁻¹ (λ m. 0 < 10 ^ m) k (omega arith)))
+  whole-asks j d m (WholeAt.run e x) l = let u = x .few l .0 in (u .bound, u .small)
+
+  pub whole-zero : (neg : Bool) (j d m : ℕ) → WholeAt t i b j d m → m ≤ maxDigits → T (isDigit (getD t j 0))
+      → Settled t (first neg b) i (record { negative = neg; coefficient = 0; digits = 1; fraction = 0; down = false; power = 0; end = j })
+  whole-zero neg j d m (WholeAt.run e x) l z = absurd (T-not (isDigit (getD t j 0)) (x .few l .1) z)
+  whole-zero neg j d m (WholeAt.zero e f g k) l z =
+      subst⁻¹ (λ j. Settled t (first neg b) i (record { negative = neg; coefficient = 0; digits = 1; fraction = 0; down = false; power = 0; end = j })) f
+      (zero-digit t i neg b h e (subst (λ j. T (isDigit (getD t j 0))) f z))
+
+  pub whole-rest : (neg : Bool) (j d m : ℕ) (r : Number) → WholeAt t i b j d m → m ≤ maxDigits → T (not (isDigit (getD t j 0))) → PartAt t (Numeral.whole neg d m) j r → PartAt t (first neg b) i r
+  whole-rest neg j d m r (WholeAt.run e x) l z y = first-rest t i neg b e (b - code "0") refl j d m x r l y
+  whole-rest neg j d m r (WholeAt.zero e f g k) l z y =
+      zero-rest t i neg b r e (subst (λ j. T (not (isDigit (getD t j 0)))) f z) (subst (λ j. PartAt t (Numeral.whole neg 0 1) j r) f (subst (λ d. PartAt t (Numeral.whole neg d 1) j r) g (subst (λ m. PartAt t (Numeral.whole neg d m) j r) k y)))
+
 -- The whole number.
-pub opens-digit : (b : ℕ) → opensNumber b ≡ true → (b ≡ code "-" → ⊥) → isDigit b ≡ true
+opens-digit : (b : ℕ) → opensNumber b ≡ true → (b ≡ code "-" → ⊥) → isDigit b ≡ true
 opens-digit b e f = let z : opensNumber b ≡ isDigit b = rw (ne-eqb b 45 f) in sym z ∙ e
 
 module _ (t : Bytes) (i : ℕ) (h : i < length t) where
-  pub unsigned : (r : Number) → T (isDigit (getD t i 0)) → PartAt t (first false (getD t i 0)) (i + 1) r → NumberAt t i r
+  unsigned : (r : Number) → T (isDigit (getD t i 0)) → PartAt t (first false (getD t i 0)) (i + 1) r → NumberAt t i r
   unsigned (Number.Decimal w) d x = record { onward = omega (arith, x .onward); bound = x .bound; sized = x .sized; same = λ st. value-first t i h d st ∙ x .same i st }
   unsigned (Number.Refused k q) d x = record { some = x .some; same = λ st. value-first t i h d st ∙ x .same i st }
 
   module _ (e : getD t i 0 ≡ code "-") where
-    pub minus-cut : length t ≤ i + 1 → Unnumbered t i 3 (i + 1)
+    minus-cut : length t ≤ i + 1 → Unnumbered t i 3 (i + 1)
     minus-cut l = record { some = λ e. absurd (omega arith); same = λ st. value-minus t i h e st ∙ minus-short t (i + 1) l .same i st }
 
     module _ (j : i + 1 < length t) where
-      pub minus-off : T (not (isDigit (getD t (i + 1) 0))) → Unnumbered t i 4 (i + 1)
+      minus-off : T (not (isDigit (getD t (i + 1) 0))) → Unnumbered t i 4 (i + 1)
       minus-off d = record { some = λ e. absurd (omega arith); same = λ st. value-minus t i h e st ∙ minus-wrong t (i + 1) j d .same i st }
 
-      pub negative : (r : Number) → T (isDigit (getD t (i + 1) 0)) → PartAt t (first true (getD t (i + 1) 0)) (i + 1 + 1) r → NumberAt t i r
+      negative : (r : Number) → T (isDigit (getD t (i + 1) 0)) → PartAt t (first true (getD t (i + 1) 0)) (i + 1 + 1) r → NumberAt t i r
       negative (Number.Decimal w) d x =
           record { onward = omega (arith, x .onward); bound = x .bound; sized = x .sized; same = λ st. value-minus t i h e st ∙ minus-first t (i + 1) j d i st ∙ x .same i st }
       negative (Number.Refused k q) d x = record { some = x .some; same = λ st. value-minus t i h e st ∙ minus-first t (i + 1) j d i st ∙ x .same i st }
+
+-- The same where the first digit stands at `j`, behind a minus or at once.
+module _ (t : Bytes) (i : ℕ) (h : i < length t) (o : opensNumber (getD t i 0) ≡ true) where
+  pub number-short : {j : ℕ} → BehindMinus (getD t i 0) i j → length t ≤ j → Unnumbered t i 3 j
+  number-short (BehindMinus.none f e) l = absurd (omega arith)
+  number-short (BehindMinus.minus f e) l = subst⁻¹ (Unnumbered t i 3) e (minus-cut t i h f (omega arith))
+
+  pub number-off : {j : ℕ} → BehindMinus (getD t i 0) i j → j < length t → T (not (isDigit (getD t j 0))) → Unnumbered t i 4 j
+  number-off (BehindMinus.none f e) l d = absurd (T-not (isDigit (getD t i 0)) (subst (λ j. T (not (isDigit (getD t j 0)))) e d) (is-true (opens-digit (getD t i 0) o f)))
+  number-off (BehindMinus.minus f e) l d = subst⁻¹ (Unnumbered t i 4) e (minus-off t i h f (omega arith) (subst (λ j. T (not (isDigit (getD t j 0)))) e d))
+
+  pub number-rest : {j : ℕ} (r : Number) → BehindMinus (getD t i 0) i j → j < length t → T (isDigit (getD t j 0)) → PartAt t (first (eqb (getD t i 0) (code "-")) (getD t j 0)) (j + 1) r → NumberAt t i r
+  number-rest {j} r (BehindMinus.none f e) l d x =
+      unsigned t i h r (subst (λ j. T (isDigit (getD t j 0))) e d)
+      (subst (λ j. PartAt t (first false (getD t j 0)) (j + 1) r) e (subst (λ c. PartAt t (first c (getD t j 0)) (j + 1) r) (ne-eqb (getD t i 0) (code "-") f) x))
+  number-rest {j} r (BehindMinus.minus f e) l d x =
+      negative t i h f (omega arith) r (subst (λ j. T (isDigit (getD t j 0))) e d)
+      (subst (λ j. PartAt t (first true (getD t j 0)) (j + 1) r) e (subst (λ c. PartAt t (first c (getD t j 0)) (j + 1) r) (eq-eqb (getD t i 0) (code "-") f) x))

@@ -33,6 +33,11 @@ behindPower m down e k = Numeral.power (m .negative) (m .coefficient) (m .digits
 unfoldable pub first : Bool → ℕ → Numeral
 first neg b = cond (eqb b (code "0")) (Numeral.zero neg) (Numeral.whole neg (andDigit 0 b) 1)
 
+-- `j` is the offset of the first digit of a number that begins at `i` with the byte `b`.
+pub data BehindMinus (b i j : ℕ) : Type 0 where
+  minus : b ≡ code "-" → j ≡ i + 1 → BehindMinus b i j
+  none : (b ≡ code "-" → ⊥) → j ≡ i → BehindMinus b i j
+
 -- The digits before an exponent are within their ceiling.
 abbrev pub Sound : Mantissa → Type 0
 Sound m = (m .digits ≤ maxDigits) × (m .fraction ≤ m .digits) × (m .coefficient < 10 ^ m .digits)
@@ -79,3 +84,8 @@ pub record DigitsAt (t : Bytes) (i c n j d m : ℕ) : Type 0 where
   pub few : m ≤ maxDigits → Counted t i c n j d m × T (not (isDigit (getD t j 0)))
   pub many : maxDigits < m
       → ((neg : Bool) → Spoilt t (Numeral.whole neg c n) i 6 j) × ((neg : Bool) (f : ℕ) → Spoilt t (Numeral.fraction neg c n f) i 6 j)
+
+-- The digits before the point, behind the first, which is `b`: none behind a 0, else the whole run.
+pub data WholeAt (t : Bytes) (i b j d m : ℕ) : Type 0 where
+  zero : b ≡ code "0" → j ≡ i → d ≡ 0 → m ≡ 1 → WholeAt t i b j d m
+  run : (b ≡ code "0" → ⊥) → DigitsAt t i (b - code "0") 1 j d m → WholeAt t i b j d m

@@ -5,13 +5,14 @@ ghost use mathlib.Core.Bool.{true, not};
 ghost use mathlib.Core.Path.{_≡_};
 ghost use Prim.Native.Nat.{_^_, _≤_, _<_};
 ghost use Rattle.scan.specs.Numbers.{NumberAt, opensNumber};
-ghost use Rattle.scan.specs.Numerals.{PartAt, first};
+ghost use Rattle.scan.specs.Numerals.{BehindMinus, PartAt, WholeAt, first};
 ghost use Rattle.text.proofs.Machine.{Numeral};
 ghost use Rattle.text.specs.Bytes.{isDigit};
 ghost use Rattle.text.specs.Ceilings.{maxDigits};
 use crate::bytes::byte_at;
 use crate::bytes::is_digit;
 use crate::bytes::wide;
+use crate::digits::Digits;
 use crate::digits::digits_at;
 use crate::exponent::Mantissa;
 use crate::limits::MAX_DIGITS;
@@ -83,33 +84,57 @@ fn point_at(text: &[u8], at: usize, negative: bool, coefficient: u64, digits: u6
     fraction_at(text, at + 1, negative, coefficient, digits)
 }
 
+// The digits before the point, of which the first, `lead`, stands before `at`. Nothing but a point or an
+// exponent may stand behind a leading 0.
+fn whole_at(text: &[u8], at: usize, lead: u8) -> Digits
+    requires { ⌜ (at ≤ length (now text)) × (isDigit lead ≡ true) ⌝ }
+    ensures counted { λ r. ⌜ WholeAt (now (text .entry)) at lead (r .end) (r .coefficient) (r .digits) ⌝ }
+{
+    if lead == b'0' {
+        return Digits {
+            end: at,
+            coefficient: 0,
+            digits: 1,
+        };
+    }
+    digits_at(text, at, wide(lead - b'0'), 1)
+}
+
 // The rest of a number behind its first digit, which is `lead`.
 fn mantissa_at(text: &[u8], at: usize, negative: bool, lead: u8) -> Number
     requires { ⌜ (at ≤ length (now text)) × (isDigit lead ≡ true) ⌝ }
     ensures part { λ r. ⌜ PartAt (now (text .entry)) (first negative lead) at r ⌝ }
 {
-    if lead == b'0' {
-        let b = byte_at(text, at);
-        if is_digit(b) {
-            return Number::Decimal(Written {
-                negative,
-                coefficient: 0,
-                digits: 1,
-                fraction: 0,
-                down: false,
-                power: 0,
-                end: at,
-            });
-        }
-        return point_at(text, at, negative, 0, 1);
-    }
-    let r = digits_at(text, at, wide(lead - b'0'), 1);
+    let r = whole_at(text, at, lead);
     let end = r.end;
     let n = r.digits;
     if MAX_DIGITS < n {
         return Number::Refused(6, end);
     }
+    let b = byte_at(text, end);
+    if is_digit(b) {
+        return Number::Decimal(Written {
+            negative,
+            coefficient: 0,
+            digits: 1,
+            fraction: 0,
+            down: false,
+            power: 0,
+            end,
+        });
+    }
     point_at(text, end, negative, r.coefficient, n)
+}
+
+// The offset of the first digit of a number whose first byte, `b`, stands at `at`.
+fn behind_minus(b: u8, at: usize) -> usize
+    requires { ⌜ at < 9223372036854775808 ⌝ }
+    ensures { λ r. ⌜ BehindMinus b at r ⌝ }
+{
+    if b == b'-' {
+        return at + 1;
+    }
+    at
 }
 
 // The number of `text` whose first byte, a digit or `-`, stands at `at`, as far as a number can be read.
@@ -118,10 +143,7 @@ pub fn number_at(text: &[u8], at: usize) -> Number
     ensures read { λ r. ⌜ NumberAt (now (text .entry)) at r ⌝ }
 {
     let b = text[at];
-    let j = at + 1;
-    if b != b'-' {
-        return mantissa_at(text, j, false, b);
-    }
+    let j = behind_minus(b, at);
     if text.len() <= j {
         return Number::Refused(3, j);
     }
@@ -129,5 +151,5 @@ pub fn number_at(text: &[u8], at: usize) -> Number
     if !is_digit(d) {
         return Number::Refused(4, j);
     }
-    mantissa_at(text, j + 1, true, d)
+    mantissa_at(text, j + 1, b == b'-', d)
 }

@@ -1,60 +1,51 @@
-use Rattle.scan.proofs.Numbers.{digit-there, first-over, first-rest, none-there, zero-digit, zero-rest}
-use Rattle.scan.proofs.Numerals.{digit-bounds}
-use Rattle.scan.proofs.number.mantissa_at.Statement.{statement}
-use Rattle.text.proofs.Tests.{is-true}
-use borrow.Author.Needs.{needs}
+use Rattle.scan.proofs.Numbers.{digit-there, none-there, whole-asks, whole-over, whole-rest, whole-zero}
 use native.Mathlib.Omega.{arith}
+use borrow.Author.Needs.{needs}
+use Rattle.scan.proofs.number.mantissa_at.Statement.{statement}
 use Rattle.scan.proofs.number.mantissa_at.Tie as tie
+use Rattle.scan.proofs.number.mantissa_at.Reads as reads
+use Rattle.scan.proofs.number.mantissa_at.Lts as lts
+use Rattle.scan.proofs.bytes.byte_at.Reads as byte-at-reads
+use Rattle.scan.proofs.bytes.is_digit.Reads as is-digit-reads
+use Rattle.scan.proofs.number.point_at.Reads as point-at-reads
+use Rattle.scan.proofs.number.whole_at.Reads as whole-at-reads
 
+-- src/number.rt:108:9
+whole-at-requires : tie.Need-whole-at-requires
+whole-at-requires c κs = search needs
+
+-- src/number.rt:112:9
+returns : tie.Need-returns
+returns c = whole-over _ _ _ (c .before .before .before .pre .0) _ _ _ _ (c .before .whole-at .ensures) (c .if1 .taken)
+
+-- src/number.rt:114:9
 byte-at-requires : tie.Need-byte-at-requires
 byte-at-requires c κs = search needs
 
+-- src/number.rt:115:8
 is-digit-requires : tie.Need-is-digit-requires
 is-digit-requires c κs = search needs
 
-returns : tie.Need-returns
-returns c = zero-digit _ _ _ _ (omega arith) (c .before .before .before .if1 .taken) (digit-there (c .before .before .before .before .before .args .text .now) (c .before .before .before .before .before .args .at) _ _ (c .before .before .byte-at .ensures) (c .before .is-digit .ensures) (c .if2 .taken))
-
-point-at-requires : tie.Need-point-at-requires
-point-at-requires c κs = (omega arith, omega arith, omega arith, none-there (c .before .before .before .before .before .args .text .now) (c .before .before .before .before .before .args .at) _ _ (c .before .before .byte-at .ensures) (c .before .is-digit .ensures) (c .if2 .left))
-
+-- src/number.rt:116:9
 returns-2 : tie.Need-returns-2
-returns-2 c =
-    let a = c .before .before .before .before .before .before .args in
-    zero-rest (a .text .now) (a .at) _ _ (c .point-at .result) (c .before .before .before .before .if1 .taken) (none-there (a .text .now) (a .at) _ _ (c .before .before .before .byte-at .ensures) (c .before .before .is-digit .ensures) (c .before .if2 .left)) (c .point-at .ensures)
+returns-2 c = whole-zero (c .before .before .before .before .before .before .args .text .now) (c .before .before .before .before .before .before .args .at) _ (c .before .before .before .before .before .before .pre .0) _ _ _ _ (c .before .before .before .before .whole-at .ensures) (c .before .before .before .if1 .left) (digit-there (c .before .before .before .before .before .before .args .text .now) (c .before .before .before .before .whole-at .result .end) _ _ (c .before .before .byte-at .ensures) (c .before .is-digit .ensures) (c .if2 .taken))
 
-sub-wide : tie.Need-sub-wide
-sub-wide c = omega (arith, digit-bounds (c .before .before .args .lead) (is-true (c .before .before .pre .1)))
+-- src/number.rt:126:5
+point-at-requires : tie.Need-point-at-requires
+point-at-requires c κs = let x = whole-asks (c .before .before .before .before .before .before .args .text .now) (c .before .before .before .before .before .before .args .at) _ (c .before .before .before .before .before .before .pre .0) _ _ _ (c .before .before .before .before .whole-at .ensures) (c .before .before .before .if1 .left) in (x .0, c .before .before .before .if1 .left, x .1, none-there (c .before .before .before .before .before .before .args .text .now) (c .before .before .before .before .whole-at .result .end) _ _ (c .before .before .byte-at .ensures) (c .before .is-digit .ensures) (c .if2 .left))
 
-wide-requires : tie.Need-wide-requires
-wide-requires c κs = search needs
-
-digits-at-requires : tie.Need-digits-at-requires
-digits-at-requires c κs = (omega arith, omega arith, omega (arith, c .wide .ensures, digit-bounds (c .before .before .before .args .lead) (is-true (c .before .before .before .pre .1))))
-
+-- src/number.rt:104:1
 returns-3 : tie.Need-returns-3
-returns-3 c = first-over _ _ _ _ (c .before .before .before .if1 .left) _ (c .before .before .wide .ensures) _ _ _ (c .before .digits-at .ensures) (c .if3 .taken)
-
-point-at-requires-2 : tie.Need-point-at-requires-2
-point-at-requires-2 c κs =
-    let u = c .before .digits-at .ensures .few (c .if3 .left) in
-    (u .0 .bound, c .if3 .left, u .0 .small, u .1)
-
-returns-4 : tie.Need-returns-4
-returns-4 c = first-rest (c .before .before .before .before .before .before .args .text .now) (c .before .before .before .before .before .before .args .at) _ _ (c .before .before .before .before .if1 .left) _ (c .before .before .before .wide .ensures) _ _ _ (c .before .before .digits-at .ensures) (c .point-at2 .result) (c .before .if3 .left) (c .point-at2 .ensures)
+returns-3 c = whole-rest (c .before .before .before .before .before .before .before .args .text .now) (c .before .before .before .before .before .before .before .args .at) _ (c .before .before .before .before .before .before .before .pre .0) _ _ _ _ (c .point-at .result) (c .before .before .before .before .before .whole-at .ensures) (c .before .before .before .before .if1 .left) (none-there (c .before .before .before .before .before .before .before .args .text .now) (c .before .before .before .before .before .whole-at .result .end) _ _ (c .before .before .before .byte-at .ensures) (c .before .before .is-digit .ensures) (c .before .if2 .left)) (c .point-at .ensures)
 
 pub mantissa-at-spec : {M : Type 1} → statement M
 mantissa-at-spec =
     tie.close
     (tie.spec
+    whole-at-requires
+    returns
     byte-at-requires
     is-digit-requires
-    returns
-    point-at-requires
     returns-2
-    sub-wide
-    wide-requires
-    digits-at-requires
-    returns-3
-    point-at-requires-2
-    returns-4)
+    point-at-requires
+    returns-3)

@@ -1,58 +1,63 @@
-use Rattle.scan.proofs.Numbers.{minus-cut, minus-off, negative, opens-digit, unsigned}
+use Rattle.scan.proofs.Numbers.{number-off, number-rest, number-short}
 use Rattle.scan.proofs.Steps.{fails, holds}
-use Rattle.scan.proofs.number.number_at.Statement.{statement}
-use Rattle.text.proofs.Tests.{is-true}
-use borrow.Author.Needs.{needs}
 use borrow.Author.Tests.{not-false, not-true}
 use mathlib.Core.Path.{_∙_, sym}
 use native.Mathlib.Omega.{arith}
+use borrow.Author.Needs.{needs}
+use Rattle.scan.proofs.number.number_at.Statement.{statement}
 use Rattle.scan.proofs.number.number_at.Tie as tie
+use Rattle.scan.proofs.number.number_at.Reads as reads
+use Rattle.scan.proofs.number.number_at.Lts as lts
+use Rattle.scan.proofs.bytes.is_digit.Reads as is-digit-reads
+use Rattle.scan.proofs.number.behind_minus.Reads as behind-minus-reads
+use Rattle.scan.proofs.number.mantissa_at.Reads as mantissa-at-reads
 
+-- src/number.rt:131:13
 shared-slice-read-b : tie.Need-shared-slice-read-b
 shared-slice-read-b c = search needs
 
-add-j : tie.Need-add-j
-add-j c = search needs
+-- src/number.rt:132:9
+behind-minus-requires : tie.Need-behind-minus-requires
+behind-minus-requires c κs = search needs
 
-mantissa-at-requires : tie.Need-mantissa-at-requires
-mantissa-at-requires c κs = (omega arith, opens-digit _ (c .before .before .before .pre .1) (c .if1 .taken))
-
+-- src/number.rt:134:9
 returns : tie.Need-returns
-returns c = unsigned (c .before .before .before .before .args .text .now) (c .before .before .before .before .args .at) (omega arith) (c .mantissa-at .result) (is-true (opens-digit _ (c .before .before .before .before .pre .1) (c .before .if1 .taken))) (c .mantissa-at .ensures)
+returns c = number-short (c .before .before .before .before .args .text .now) (c .before .before .before .before .args .at) (c .before .before .before .before .pre .0) (c .before .before .before .before .pre .1) (c .before .behind-minus .ensures) (c .if1 .taken)
 
-returns-2 : tie.Need-returns-2
-returns-2 c = minus-cut _ _ (omega arith) (c .before .if1 .left) (c .if2 .taken)
-
+-- src/number.rt:136:13
 shared-slice-read-d : tie.Need-shared-slice-read-d
 shared-slice-read-d c = search needs
 
+-- src/number.rt:137:9
 is-digit-requires : tie.Need-is-digit-requires
 is-digit-requires c κs = search needs
 
-returns-3 : tie.Need-returns-3
-returns-3 c = minus-off _ _ (omega arith) (c .before .before .before .before .if1 .left) (omega arith) (fails _ _ (c .before .is-digit .ensures) (not-true _ (c .if3 .taken)))
+-- src/number.rt:138:9
+returns-2 : tie.Need-returns-2
+returns-2 c = number-off (c .before .before .before .before .before .before .before .args .text .now) (c .before .before .before .before .before .before .before .args .at) (c .before .before .before .before .before .before .before .pre .0) (c .before .before .before .before .before .before .before .pre .1) (c .before .before .before .before .behind-minus .ensures) (omega arith) (fails _ _ (c .before .is-digit .ensures) (not-true _ (c .if2 .taken)))
 
+-- src/number.rt:140:23
 add-mantissa-at : tie.Need-add-mantissa-at
 add-mantissa-at c = search needs
 
-mantissa-at-requires-2 : tie.Need-mantissa-at-requires-2
-mantissa-at-requires-2 c κs = (omega arith, sym (c .before .is-digit .ensures) ∙ not-false _ (c .if3 .left))
+-- src/number.rt:140:5
+mantissa-at-requires : tie.Need-mantissa-at-requires
+mantissa-at-requires c κs = (omega arith, sym (c .before .is-digit .ensures) ∙ not-false _ (c .if2 .left))
 
-returns-4 : tie.Need-returns-4
-returns-4 c = negative (c .before .before .before .before .before .before .before .before .args .text .now) (c .before .before .before .before .before .before .before .before .args .at) (omega arith) (c .before .before .before .before .before .if1 .left) (omega arith) (c .mantissa-at2 .result) (holds _ _ (c .before .before .is-digit .ensures) (not-false _ (c .before .if3 .left))) (c .mantissa-at2 .ensures)
+-- src/number.rt:127:1
+returns-3 : tie.Need-returns-3
+returns-3 c = number-rest (c .before .before .before .before .before .before .before .before .args .text .now) (c .before .before .before .before .before .before .before .before .args .at) (c .before .before .before .before .before .before .before .before .pre .0) (c .before .before .before .before .before .before .before .before .pre .1) (c .mantissa-at .result) (c .before .before .before .before .before .behind-minus .ensures) (omega arith) (holds _ _ (c .before .before .is-digit .ensures) (not-false _ (c .before .if2 .left))) (c .mantissa-at .ensures)
 
 pub number-at-spec : {M : Type 1} → statement M
 number-at-spec =
     tie.close
     (tie.spec
     shared-slice-read-b
-    add-j
-    mantissa-at-requires
+    behind-minus-requires
     returns
-    returns-2
     shared-slice-read-d
     is-digit-requires
-    returns-3
+    returns-2
     add-mantissa-at
-    mantissa-at-requires-2
-    returns-4)
+    mantissa-at-requires
+    returns-3)
