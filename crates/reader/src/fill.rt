@@ -51,7 +51,8 @@ fn stopped(
 }
 
 // Reads `text` and fills `table`, up to its end or to what no text has there. Names that stand twice are
-// left for later.
+// left for later. One loop over the tokens keeps its state in locals: to hand it on between functions
+// would make it slower by far.
 pub fn fill(text: &[u8], table: &mut [u32]) -> State
     requires { ⌜ (length (now text) ≤ maxText) × (recordWords * length (now text) ≤ length (now table)) ⌝ }
     ensures stopped { λ r. ⌜ StoppedAs (now (text .entry)) (now (table .entry)) (now (table .exit)) r ⌝ }

@@ -91,10 +91,11 @@ fn container_at(
     requires { ⌜ (i < length (now text)) × (opensContainer (getD (now text) i 0) ≡ true) × (length (now text) < unnamed) × (recordWords * n + recordWords ≤ length (now table)) × (n < unnamed) × (name ≤ unnamed) × (around ≤ unnamed) ⌝ }
     ensures read { λ r. ⌜ ValueAt (now (text .entry)) (now (table .entry)) (now (table .exit)) i name n around depth (r .number) (r .at) ⌝ }
 {
+    let inside = i + 1;
     if MAX_DEPTH <= depth {
         return Reach { number: 5, at: i };
     }
-    let j = skip(text, i + 1);
+    let j = skip(text, inside);
     if byte_at(text, j) != text[i] + 2 {
         put(table, n, i, 0, name, around);
         return Reach {

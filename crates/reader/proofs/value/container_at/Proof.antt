@@ -7,11 +7,11 @@ use mathlib.Core.Path.{_∙_, sym}
 use native.Mathlib.Omega.{arith}
 use Rattle.reader.proofs.value.container_at.Tie as tie
 
+add-inside : tie.Need-add-inside
+add-inside c = search needs
+
 returns : tie.Need-returns
 returns c = deep-refused (c .before .before .before .pre .0) (c .before .before .before .pre .1) (c .if1 .taken)
-
-add-skip : tie.Need-add-skip
-add-skip c = search needs
 
 skip-requires : tie.Need-skip-requires
 skip-requires c κs = search needs
@@ -48,8 +48,8 @@ add-put-2 c = search needs
 put-requires-2 : tie.Need-put-requires-2
 put-requires-2 c κs = search needs
 
-add-skip-2 : tie.Need-add-skip-2
-add-skip-2 c = search needs
+add-skip : tie.Need-add-skip
+add-skip c = search needs
 
 skip-requires-2 : tie.Need-skip-requires-2
 skip-requires-2 c κs =
@@ -69,8 +69,8 @@ pub container-at-spec : {M : Type 1} → statement M
 container-at-spec =
     tie.close
     (tie.spec
+    add-inside
     returns
-    add-skip
     skip-requires
     byte-at-requires
     shared-slice-read-if2
@@ -81,7 +81,7 @@ container-at-spec =
     add-put
     add-put-2
     put-requires-2
-    add-skip-2
+    add-skip
     skip-requires-2
     same-length-2
     returns-3)
