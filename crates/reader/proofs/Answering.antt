@@ -7,21 +7,21 @@ use Rattle.names.specs.Units.{closing}
 use Rattle.reader.proofs.Repeated.{First, first-least, rising-below}
 use Rattle.reader.specs.Answers.{ReadAs, answerOf, answered}
 use Rattle.reader.specs.declared.answer.Answer.{Answer}
-use Rattle.reader.specs.Loop.{Broken, Framed, Read, Settled, answer, strict}
-use Rattle.reader.specs.Repeats.{Least, Rising, firstOr}
+use Rattle.reader.specs.Loop.{Framed, Read, Settled, answer, strict}
+use Rattle.reader.specs.Repeats.{firstOr}
 use Rattle.scan.proofs.Steps.{at-start}
-use Rattle.scan.specs.Answers.{Judge, at, judging}
+use Rattle.scan.specs.Answers.{judging}
 use Rattle.text.proofs.Demand3.{number-of-refusal, place-longest, read, read-right}
 use Rattle.text.proofs.Limits.{house-limits}
 use Rattle.text.proofs.Records.{table-length}
 use Rattle.text.specs.Bytes.{Bytes}
-use Rattle.text.specs.Ceilings.{Ceilings, Gate, house}
+use Rattle.text.specs.Ceilings.{Gate, house}
 use Rattle.text.specs.Grammar.{Text}
 use Rattle.text.specs.Node.{Node}
-use Rattle.text.specs.Table.{Words, recordWords, size, table, unnamed}
+use Rattle.text.specs.Table.{Words, size, table, unnamed}
 use Rattle.text.specs.Verdict.{Outcome, Verdict}
 use lib.ListN.{drop, length, length-append, length-drop, length-replicate, replicate}
-use mathlib.Core.List.{List, [], _++_, _∷_}
+use mathlib.Core.List.{List, _++_}
 use mathlib.Core.Path.{_∙_, _≡_, ap, fun-ext, refl, subst, subst⁻¹, sym}
 use native.Mathlib.Numerals.{add-one}
 use native.Mathlib.Omega.{arith}

@@ -3,21 +3,19 @@ use Prim.Native.Char.{code}
 use Prim.Native.Nat.{ℕ, _+_, _<_, _≤_}
 use Rattle.reader.proofs.Tokens.{took-at}
 use Rattle.reader.specs.Stacks.{kind, shutAt}
-use Rattle.reader.specs.Tokens.{brace, bracket}
-use Rattle.scan.proofs.Steps.{differs, fail, fails, finish, short, step}
-use Rattle.scan.specs.Answers.{Judge, at, refused, shut}
+use Rattle.scan.proofs.Steps.{differs, fail, fails, finish, short}
+use Rattle.scan.specs.Answers.{Judge, at, refused}
 use Rattle.text.proofs.Machine.{Frame, Stack, State, afterMove, move, ontoMembers, ontoNodes}
 use Rattle.text.proofs.Run.{Done, Fault, Took, isDone}
-use Rattle.text.specs.Bytes.{Bytes, Units, isSpace}
+use Rattle.text.specs.Bytes.{Bytes, isSpace}
 use Rattle.text.specs.Node.{Members, Node, Nodes}
 use Rattle.text.specs.Verdict.{Outcome}
 use lib.Dec.{T}
 use lib.ListN.{getD, length}
 use mathlib.Core.Bool.{false, not}
 use mathlib.Core.List.{[], _∷_}
-use mathlib.Core.Path.{_≡_, subst⁻¹, sym, refl}
+use mathlib.Core.Path.{_≡_, sym, refl}
 use native.Mathlib.Numerals.{add-one}
-use native.Mathlib.Omega.{arith}
 
 -- The innermost open container with one value more.
 unfoldable pub joined : Frame → Node → Frame

@@ -10,17 +10,16 @@ use Rattle.reader.proofs.Repeated.{array-repeats, object-least, object-
 use Rattle.reader.proofs.Rows.{Kin, kin, own-least, row, row-repeat}
 use Rattle.reader.proofs.Records.{words-length}
 use Rattle.reader.specs.Loop.{After, Closable, ClosedAt, Inside, Said}
-use Rattle.reader.specs.Repeats.{Least, Lesser, closed, deeper, insideAll, insideMembers, repeats}
+use Rattle.reader.specs.Repeats.{Least, Lesser, closed}
 use Rattle.reader.specs.Tokens.{brace}
 use Rattle.reader.specs.Stacks.{Spelt, backMembers, begun, kind, nameOf, shutAt, words}
 use Rattle.text.proofs.Machine.{Frame, Stack}
 use Rattle.text.specs.Bytes.{Bytes, Units}
 use Rattle.text.specs.Node.{Members, Nodes}
-use Rattle.text.specs.Table.{Words, size, sizeMembers, unnamed}
+use Rattle.text.specs.Table.{Words, sizeMembers, unnamed}
 use lib.ListN.{drop, getD, length, length-append, length-set, set}
 use mathlib.Core.List.{List, [], _++_, _∷_, append-assoc}
-use mathlib.Core.Path.{_∙_, _≡_, ap, refl, subst, subst⁻¹, sym}
-use native.Mathlib.Numerals.{add-one}
+use mathlib.Core.Path.{_∙_, _≡_, ap, subst⁻¹, sym}
 use native.Mathlib.Omega.{arith}
 
 -- The records written fit the table, and the open one is among them.

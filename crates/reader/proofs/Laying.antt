@@ -14,7 +14,7 @@ use Rattle.text.proofs.Offsets.{end, start}
 use Rattle.text.specs.Bytes.{Bytes, Units}
 use Rattle.text.specs.Ceilings.{maxDepth}
 use Rattle.text.specs.Node.{Members, Node, Nodes}
-use Rattle.text.specs.Table.{Words, records, size, unnamed}
+use Rattle.text.specs.Table.{Words, records, size}
 use lib.ListN.{drop, getD, length, length-append, length-drop, length-set, set}
 use lib.Seq.{drop-append-add, drop-drop}
 use mathlib.Core.List.{List, [], _++_, _∷_, append-assoc, append-nil}

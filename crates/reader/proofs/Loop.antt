@@ -4,27 +4,25 @@ use Prim.Native.Nat.{ℕ, suc, _*_, _+_, _-_, _<_, _≤_}
 use Rattle.members.specs.Lists.{In}
 use Rattle.names.specs.Units.{closing}
 use Rattle.reader.proofs.Behind.{after-short, all-read, closes, comma, dueIn, joined, value-short, wrong-inside, wrong-outside}
-use Rattle.reader.proofs.Laying.{Fresh, element, fresh-array, fresh-object, join, laid-framed, laid-on, named-on, named-value, open-frame, put-value, said-on}
+use Rattle.reader.proofs.Laying.{element, fresh-array, fresh-object, join, laid-framed, laid-on, named-value, open-frame, put-value, said-on}
 use Rattle.reader.proofs.Repeated.{first-append, in-none, rising-again, rising-on}
-use Rattle.reader.specs.Loop.{After, Broken, Closable, ClosedAt, Entering, Framed, Inside, Kept, Laid, Read, Said, Stopped, Wants, answer, strict}
-use Rattle.reader.specs.Repeats.{Least, Rising, again, before, between, closed, firstOr, repeats}
-use Rattle.reader.specs.Stacks.{Marked, Named, Quote, Spelt, begun, kind, nameOf, openOf, shutAt, words}
-use Rattle.reader.specs.Tokens.{EntryAt, Flat, Name, Opened, Opening, ValueAt, Whole, brace, bracket, opened}
-use Rattle.scan.proofs.Steps.{at-start}
+use Rattle.reader.specs.Loop.{After, Broken, Closable, ClosedAt, Entering, Inside, Kept, Laid, Said, Stopped, Wants, answer, strict}
+use Rattle.reader.specs.Repeats.{Least, Rising, again, before, between, closed, firstOr}
+use Rattle.reader.specs.Stacks.{Marked, Named, begun, kind, nameOf, openOf, shutAt, words}
+use Rattle.reader.specs.Tokens.{EntryAt, Opened, Opening, Whole, brace, bracket, opened}
 use Rattle.scan.specs.Answers.{Judge, at, refused}
 use Rattle.scan.specs.Space.{Dense, Skipped, Spaced}
 use Rattle.scan.specs.Strings.{judged}
 use Rattle.text.proofs.Machine.{Frame, Stack, State, depthOf, namesOf}
-use Rattle.text.proofs.Way.{initial}
 use Rattle.text.specs.Bytes.{Bytes, Units}
 use Rattle.text.specs.Ceilings.{among, maxDepth}
 use Rattle.text.specs.Node.{Members, Node, Nodes}
-use Rattle.text.specs.Table.{Words, records, size, table, unnamed}
+use Rattle.text.specs.Table.{Words, table, unnamed}
 use Rattle.text.specs.Verdict.{Outcome}
 use lib.Dec.{T}
 use lib.ListN.{drop, getD, length, set}
 use mathlib.Core.Bool.{Bool, cond, false, not, true}
-use mathlib.Core.List.{List, [], _++_, _∷_, append-nil}
+use mathlib.Core.List.{List, [], _++_, _∷_}
 use mathlib.Core.Path.{_∙_, _≡_, ap, refl, subst, subst⁻¹, sym}
 use native.Mathlib.Omega.{arith}
 

@@ -13,7 +13,7 @@ use lib.ListN.{drop}
 use mathlib.Core.Bool.{Bool, cond, false, true}
 use mathlib.Core.List.{List, [], _++_, _∷_, append-assoc, append-nil}
 use mathlib.Core.Logic.{_⊎_, inl, inr}
-use mathlib.Core.Path.{_∙_, _≡_, ap, refl, subst, subst⁻¹, sym}
+use mathlib.Core.Path.{_∙_, _≡_, ap, refl, subst⁻¹, sym}
 use native.Mathlib.Omega.{arith}
 
 -- What is in a list put together from two.

@@ -1,6 +1,6 @@
 -- The members of an object that closes: they are a row in the table, and its first repeated name is the least of the
 -- object's own that repeat others.
-use Prim.Native.Nat.{ℕ, suc, _*_, _+_, _^_, _<_, _≤_}
+use Prim.Native.Nat.{ℕ, _*_, _+_, _<_, _≤_}
 use Rattle.members.specs.Lists.{In}
 use Rattle.members.specs.Names.{nameAt}
 use Rattle.members.specs.Records.{word}
@@ -10,7 +10,7 @@ use Rattle.members.specs.Siblings.{Siblings}
 use Rattle.reader.proofs.Records.{backMembers-length, word-behind}
 use Rattle.reader.proofs.Repeated.{in-either, in-left, in-none, in-right}
 use Rattle.reader.specs.Repeats.{Least, again, own}
-use Rattle.reader.specs.Stacks.{Quote, Spelt, backMembers}
+use Rattle.reader.specs.Stacks.{Spelt, backMembers}
 use Rattle.text.proofs.Machine.{namesOf}
 use Rattle.text.proofs.Names.{among-first, among-later, same-is}
 use Rattle.text.proofs.Offsets.{end, start}
@@ -18,9 +18,9 @@ use Rattle.text.proofs.Tests.{either, true-is}
 use Rattle.text.specs.Bytes.{Bytes, Units}
 use Rattle.text.specs.Ceilings.{among, same}
 use Rattle.text.specs.Node.{Members, Node}
-use Rattle.text.specs.Table.{Words, records, size, sizeMembers, unnamed}
+use Rattle.text.specs.Table.{Words, records, size, sizeMembers}
 use lib.Dec.{T}
-use lib.ListN.{getD, length, length-append}
+use lib.ListN.{length, length-append}
 use mathlib.Core.Bool.{Bool, cond, false, true}
 use mathlib.Core.List.{List, [], _++_, _∷_, append-assoc}
 use mathlib.Core.Logic.{_⊎_, inl, inr}

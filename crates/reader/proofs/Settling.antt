@@ -3,18 +3,18 @@ use Prim.Native.Nat.{ℕ, _*_, _+_, _-_, _<_, _≤_}
 use Rattle.reader.proofs.Behind.{joined}
 use Rattle.reader.proofs.Laying.{join, laid-framed, put-value}
 use Rattle.reader.proofs.Loop.{after-stop}
-use Rattle.reader.specs.Loop.{After, Broken, Closable, ClosedAt, Inside, Pended, Read, Settled, Stopped, Wants}
+use Rattle.reader.specs.Loop.{After, Closable, ClosedAt, Inside, Pended, Settled, Stopped}
 use Rattle.reader.specs.Repeats.{repeats}
 use Rattle.reader.specs.Stacks.{Marked, Named, kind, nameOf, shutAt}
 use Rattle.reader.specs.Tokens.{Flat}
 use Rattle.text.proofs.Machine.{Frame, Stack, depthOf}
 use Rattle.text.proofs.Offsets.{end, start}
-use Rattle.text.specs.Bytes.{Bytes, Units}
-use Rattle.text.specs.Node.{Literal, Members, Node}
+use Rattle.text.specs.Bytes.{Bytes}
+use Rattle.text.specs.Node.{Literal, Node}
 use Rattle.text.specs.Table.{Words, records, size, unnamed}
 use lib.ListN.{getD, length}
-use mathlib.Core.List.{List, [], _∷_}
-use mathlib.Core.Path.{_∙_, _≡_, ap, refl, subst, subst⁻¹, sym}
+use mathlib.Core.List.{List, _∷_}
+use mathlib.Core.Path.{_∙_, _≡_, ap, refl, subst, subst⁻¹}
 use native.Mathlib.Omega.{arith}
 
 -- What stands for a value that never came.

@@ -15,12 +15,12 @@ use Rattle.scan.specs.declared.number.Number.{Number}
 use Rattle.scan.specs.declared.number.Written.{Written}
 use Rattle.scan.specs.declared.reach.Reach.{Reach}
 use Rattle.text.proofs.Demand3.{run-range}
-use Rattle.text.proofs.Machine.{Frame, Move, Stack, State, Use, depthOf, memberMove, move, otherMove, valueMove}
+use Rattle.text.proofs.Machine.{Frame, Stack, State, Use, depthOf, memberMove, move, otherMove, valueMove}
 use Rattle.text.proofs.Offsets.{end, start}
 use Rattle.text.proofs.Run.{Fault, Run, Took, isDone, run}
 use Rattle.text.proofs.Tests.{and-left, either, is-true, le-both, nonzero-most, not-byte, or-right}
 use Rattle.text.specs.Bytes.{Bytes, Units, ascii, isDigit, isNonzero, isSpace}
-use Rattle.text.specs.Ceilings.{Ceilings, Gate, house, maxDepth, numberOf}
+use Rattle.text.specs.Ceilings.{Gate, house, maxDepth, numberOf}
 use Rattle.text.specs.Decimal.{Decimal}
 use Rattle.text.specs.Node.{Literal, Members, Node, Nodes}
 use Rattle.text.specs.Table.{Words, records, recordsAll, recordsMembers, size, sizeAll, sizeMembers, unnamed}

@@ -6,7 +6,7 @@ use Rattle.text.proofs.Machine.{Frame, Stack, depthOf, ontoMembers, ontoNodes}
 use Rattle.text.proofs.Offsets.{end, start}
 use Rattle.text.specs.Bytes.{Bytes, Units}
 use Rattle.text.specs.Node.{Members, Node, Nodes}
-use Rattle.text.specs.Table.{Words, records, size, sizeAll, sizeMembers, unnamed}
+use Rattle.text.specs.Table.{Words, records, sizeAll, sizeMembers, unnamed}
 use lib.ListN.{getD, length}
 use mathlib.Core.List.{[], _∷_, _++_}
 use mathlib.Core.Path.{_≡_}

@@ -12,7 +12,7 @@ use Rattle.text.proofs.Machine.{Frame, Move, Numeral, Stack, State, afterMove, 
 use Rattle.text.proofs.Run.{Done, Fault, Took, isDone}
 use Rattle.text.proofs.Tests.{and-left, and-right, e-not, le-both, nonzero-most, not-byte}
 use Rattle.text.specs.Bytes.{Bytes, isDigit, isE, isNonzero}
-use Rattle.text.specs.Ceilings.{Gate, house, maxDigits, maxPower, numberOf, without}
+use Rattle.text.specs.Ceilings.{Gate, house, maxDigits, maxPower, numberOf}
 use Rattle.text.specs.Node.{Node}
 use borrow.Author.Tests.{eqb-false, eqb-true, le-leb, lt-leb, ne-eqb}
 use lib.Dec.{T, T-not, eqb, leb, leb→le, ltb, not-T}

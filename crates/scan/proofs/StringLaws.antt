@@ -6,7 +6,7 @@ use Rattle.scan.specs.Answers.{Judge, at, judging, shut}
 use Rattle.scan.specs.Strings.{Ended, Goes, HexAt, Hexed, Read, Refused, Rule, four, judged}
 use Rattle.text.proofs.Machine.{Left, Stack, State, Use, closeMove, hexState, move, namesOf, onto}
 use Rattle.text.proofs.Run.{Fault, Took, isDone}
-use Rattle.text.proofs.Tests.{and-left, and-right, is-true, le-both, or-right}
+use Rattle.text.proofs.Tests.{and-left, and-right, is-true, le-both}
 use Rattle.text.specs.Bytes.{Bytes, Source, Units, escapeUnit, from, hexValue, isEscape, isHex, isPlain}
 use Rattle.text.specs.Ceilings.{house, numberOf}
 use Rattle.text.specs.Node.{Members, Node}

@@ -4,8 +4,6 @@ use native.Mathlib.Omega.{arith}
 use borrow.Author.Needs.{needs}
 use Rattle.members.proofs.name.begin_alike.Statement.{statement}
 use Rattle.members.proofs.name.begin_alike.Tie as tie
-use Rattle.members.proofs.name.begin_alike.Reads as reads
-use Rattle.members.proofs.name.begin_alike.Lts as lts
 
 -- src/name.rt:43:9
 returns : tie.Need-returns

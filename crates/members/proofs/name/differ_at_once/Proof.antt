@@ -4,10 +4,6 @@ use native.Mathlib.Omega.{arith}
 use borrow.Author.Needs.{needs}
 use Rattle.members.proofs.name.differ_at_once.Statement.{statement}
 use Rattle.members.proofs.name.differ_at_once.Tie as tie
-use Rattle.members.proofs.name.differ_at_once.Reads as reads
-use Rattle.members.proofs.name.differ_at_once.Lts as lts
-use Rattle.members.proofs.name.begin_alike.Reads as begin-alike-reads
-use Rattle.members.proofs.name.differ_here.Reads as differ-here-reads
 
 -- src/name.rt:57:13
 add-i : tie.Need-add-i

@@ -4,8 +4,6 @@ use native.Mathlib.Omega.{arith}
 use borrow.Author.Needs.{needs}
 use Rattle.members.proofs.name.differ_here.Statement.{statement}
 use Rattle.members.proofs.name.differ_here.Tie as tie
-use Rattle.members.proofs.name.differ_here.Reads as reads
-use Rattle.members.proofs.name.differ_here.Lts as lts
 
 -- src/name.rt:28:9
 returns : tie.Need-returns

@@ -2,9 +2,6 @@ use Rattle.reader.proofs.Answering.{reader}
 use borrow.Author.Needs.{needs}
 use Rattle.nibrocate.proofs.read.read.Statement.{statement}
 use Rattle.nibrocate.proofs.read.read.Tie as tie
-use Rattle.nibrocate.proofs.read.read.Reads as reads
-use Rattle.nibrocate.proofs.read.read.Lts as lts
-use Rattle.reader.proofs.read.read_text.Reads as read-text-reads
 
 -- src/read.rt:12:5
 read-text-requires : tie.Need-read-text-requires

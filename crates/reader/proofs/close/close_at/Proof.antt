@@ -4,12 +4,6 @@ use native.Mathlib.Omega.{arith}
 use borrow.Author.Needs.{needs}
 use Rattle.reader.proofs.close.close_at.Statement.{statement}
 use Rattle.reader.proofs.close.close_at.Tie as tie
-use Rattle.reader.proofs.close.close_at.Reads as reads
-use Rattle.reader.proofs.close.close_at.Lts as lts
-use Rattle.reader.proofs.close.lesser.Reads as lesser-reads
-use Rattle.reader.proofs.close.wide.Reads as wide-reads
-use Rattle.reader.proofs.record.close.Reads as close-reads
-use Rattle.members.proofs.repeat.first_repeat.Reads as first-repeat-reads
 
 -- src/close.rt:48:9
 close-requires : tie.Need-close-requires

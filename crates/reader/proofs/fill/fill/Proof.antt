@@ -9,14 +9,6 @@ use native.Mathlib.Omega.{arith}
 use borrow.Author.Needs.{needs}
 use Rattle.reader.proofs.fill.fill.Statement.{statement}
 use Rattle.reader.proofs.fill.fill.Tie as tie
-use Rattle.reader.proofs.fill.fill.Reads as reads
-use Rattle.reader.proofs.fill.fill.Lts as lts
-use Rattle.reader.proofs.close.close_at.Reads as close-at-reads
-use Rattle.reader.proofs.entry.entry_at.Reads as entry-at-reads
-use Rattle.reader.proofs.fill.stopped.Reads as stopped-reads
-use Rattle.reader.proofs.value.value_at.Reads as value-at-reads
-use Rattle.scan.proofs.bytes.wide.Reads as wide-reads
-use Rattle.scan.proofs.space.skip.Reads as skip-reads
 
 abbrev Inv-loop : tie.InvT-loop
 Inv-loop text table₀ state₀ inner₀ count₀ name₀ first₀ due₀ i₀ table state inner count name first due i =

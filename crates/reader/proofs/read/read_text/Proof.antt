@@ -3,17 +3,8 @@ use Rattle.reader.proofs.Answering.{broken-is, cleared-long, count-smal
 use Rattle.reader.specs.Answers.{ReadAs}
 use mathlib.Core.Path.{subst⁻¹}
 use native.Mathlib.Omega.{arith}
-use borrow.Author.Needs.{needs}
 use Rattle.reader.proofs.read.read_text.Statement.{statement}
 use Rattle.reader.proofs.read.read_text.Tie as tie
-use Rattle.reader.proofs.read.read_text.Reads as reads
-use Rattle.reader.proofs.read.read_text.Lts as lts
-use Rattle.names.proofs.closing.closing_quote.Reads as closing-quote-reads
-use Rattle.reader.proofs.answer.refusal.Reads as refusal-reads
-use Rattle.reader.proofs.answer.success.Reads as success-reads
-use Rattle.reader.proofs.fill.fill.Reads as fill-reads
-use Rattle.reader.proofs.record.clear.Reads as clear-reads
-use Rattle.reader.proofs.settle.settle.Reads as settle-reads
 
 -- src/read.rt:21:9
 refusal-requires : tie.Need-refusal-requires

@@ -3,9 +3,6 @@ use native.Mathlib.Omega.{arith}
 use borrow.Author.Needs.{needs}
 use Rattle.reader.proofs.settle.pend.Statement.{statement}
 use Rattle.reader.proofs.settle.pend.Tie as tie
-use Rattle.reader.proofs.settle.pend.Reads as reads
-use Rattle.reader.proofs.settle.pend.Lts as lts
-use Rattle.reader.proofs.record.put.Reads as put-reads
 
 -- src/settle.rt:20:9
 returns : tie.Need-returns

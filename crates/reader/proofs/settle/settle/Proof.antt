@@ -10,10 +10,6 @@ use native.Mathlib.Omega.{arith}
 use borrow.Author.Needs.{needs}
 use Rattle.reader.proofs.settle.settle.Statement.{statement}
 use Rattle.reader.proofs.settle.settle.Tie as tie
-use Rattle.reader.proofs.settle.settle.Reads as reads
-use Rattle.reader.proofs.settle.settle.Lts as lts
-use Rattle.reader.proofs.close.close_at.Reads as close-at-reads
-use Rattle.reader.proofs.settle.pend.Reads as pend-reads
 
 abbrev Inv-loop : tie.InvT-loop
 Inv-loop text table₀ state count inner₀ first₀ d₀ table inner first d =

@@ -4,10 +4,6 @@ use mathlib.Core.Path.{subst}
 use borrow.Author.Needs.{needs}
 use Rattle.reader.proofs.value.numeral_at.Statement.{statement}
 use Rattle.reader.proofs.value.numeral_at.Tie as tie
-use Rattle.reader.proofs.value.numeral_at.Reads as reads
-use Rattle.reader.proofs.value.numeral_at.Lts as lts
-use Rattle.reader.proofs.value.refused.Reads as refused-reads
-use Rattle.scan.proofs.number.number_at.Reads as number-at-reads
 
 -- src/value.rt:40:9
 number-at-requires : tie.Need-number-at-requires

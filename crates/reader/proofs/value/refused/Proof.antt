@@ -4,8 +4,6 @@ use mathlib.Core.Path.{ap, sym}
 use borrow.Author.Needs.{needs}
 use Rattle.reader.proofs.value.refused.Statement.{statement}
 use Rattle.reader.proofs.value.refused.Tie as tie
-use Rattle.reader.proofs.value.refused.Reads as reads
-use Rattle.reader.proofs.value.refused.Lts as lts
 
 -- src/value.rt:30:31
 enum-told : tie.Need-enum-told

@@ -3,8 +3,6 @@ use mathlib.Core.Path.{refl}
 use borrow.Author.Needs.{needs}
 use Rattle.scan.proofs.number.behind_minus.Statement.{statement}
 use Rattle.scan.proofs.number.behind_minus.Tie as tie
-use Rattle.scan.proofs.number.behind_minus.Reads as reads
-use Rattle.scan.proofs.number.behind_minus.Lts as lts
 
 -- src/number.rt:121:16
 add-result : tie.Need-add-result

@@ -1,14 +1,7 @@
 use Rattle.scan.proofs.Numbers.{digit-there, none-there, whole-asks, whole-over, whole-rest, whole-zero}
-use native.Mathlib.Omega.{arith}
 use borrow.Author.Needs.{needs}
 use Rattle.scan.proofs.number.mantissa_at.Statement.{statement}
 use Rattle.scan.proofs.number.mantissa_at.Tie as tie
-use Rattle.scan.proofs.number.mantissa_at.Reads as reads
-use Rattle.scan.proofs.number.mantissa_at.Lts as lts
-use Rattle.scan.proofs.bytes.byte_at.Reads as byte-at-reads
-use Rattle.scan.proofs.bytes.is_digit.Reads as is-digit-reads
-use Rattle.scan.proofs.number.point_at.Reads as point-at-reads
-use Rattle.scan.proofs.number.whole_at.Reads as whole-at-reads
 
 -- src/number.rt:108:9
 whole-at-requires : tie.Need-whole-at-requires

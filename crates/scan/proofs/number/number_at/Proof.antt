@@ -6,11 +6,6 @@ use native.Mathlib.Omega.{arith}
 use borrow.Author.Needs.{needs}
 use Rattle.scan.proofs.number.number_at.Statement.{statement}
 use Rattle.scan.proofs.number.number_at.Tie as tie
-use Rattle.scan.proofs.number.number_at.Reads as reads
-use Rattle.scan.proofs.number.number_at.Lts as lts
-use Rattle.scan.proofs.bytes.is_digit.Reads as is-digit-reads
-use Rattle.scan.proofs.number.behind_minus.Reads as behind-minus-reads
-use Rattle.scan.proofs.number.mantissa_at.Reads as mantissa-at-reads
 
 -- src/number.rt:131:13
 shared-slice-read-b : tie.Need-shared-slice-read-b

@@ -7,10 +7,6 @@ use native.Mathlib.Omega.{arith}
 use borrow.Author.Needs.{needs}
 use Rattle.scan.proofs.number.whole_at.Statement.{statement}
 use Rattle.scan.proofs.number.whole_at.Tie as tie
-use Rattle.scan.proofs.number.whole_at.Reads as reads
-use Rattle.scan.proofs.number.whole_at.Lts as lts
-use Rattle.scan.proofs.bytes.wide.Reads as wide-reads
-use Rattle.scan.proofs.digits.digits_at.Reads as digits-at-reads
 
 -- src/number.rt:94:9
 returns : tie.Need-returns
