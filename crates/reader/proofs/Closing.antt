@@ -1,6 +1,7 @@
 -- A container closes: where it is an object, its members are a row in the table, and the first repeated name of that row
 -- joins those of the objects closed before.
 use Prim.Native.Nat.{ℕ, suc, _*_, _+_, _-_, _<_, _≤_}
+use Rattle.entries.specs.Answer.{maxText}
 use Rattle.members.specs.Repeats.{FirstRepeat}
 use Rattle.members.specs.Rows.{Row, named}
 use Rattle.members.specs.Siblings.{Siblings}
@@ -61,7 +62,7 @@ module _ {t : Bytes} {w tab m : Words} {a x : ℕ} {ms : Members} {us : Units} {
   unfolding begun
   last = omega (arith, q .count, opened-record q)
 
-  pub object-row : length t ≤ 1_048_576 → length tab′ ≡ length tab → Row t tab′ (op + 1) n
+  pub object-row : length t ≤ maxText → length tab′ ≡ length tab → Row t tab′ (op + 1) n
   object-row h l = row n kinned last h (omega (arith, few q)) (omega (arith, records-fit q))
 
   pub object-closes : (first′ z : ℕ) → e ≤ length t → ((l : List ℕ) → Siblings tab′ n (op + 1) l → FirstRepeat t (named tab′ l) z) → Lesser first z first′
@@ -79,10 +80,10 @@ array-closes {a = a} {vs = vs} {st = st} {first = first} q e tab′ r c j h b = 
 
 -- What closing asks for, and what it gives, of either kind of container.
 module _ {t : Bytes} {tab : Words} {op n b first : ℕ} where
-  pub closable-fits : length t ≤ 1_048_576 → Closable t tab op n b first → (4 * op + 4 ≤ length tab) × (n ≤ unnamed)
+  pub closable-fits : length t ≤ maxText → Closable t tab op n b first → (4 * op + 4 ≤ length tab) × (n ≤ unnamed)
   closable-fits h x = let q = x .inside in (omega (arith, open-below q, records-fit q), omega (arith, few q))
 
-  pub closable-row : (e : ℕ) (tab′ : Words) → length t ≤ 1_048_576 → b ≡ brace → Closable t tab op n b first → tab′ ≡ set (set tab (4 * op + 1) e) (4 * op + 3) n → Row t tab′ (op + 1) n
+  pub closable-row : (e : ℕ) (tab′ : Words) → length t ≤ maxText → b ≡ brace → Closable t tab op n b first → tab′ ≡ set (set tab (4 * op + 1) e) (4 * op + 3) n → Row t tab′ (op + 1) n
   unfolding kind
   closable-row e tab′ h g x r = by (x .frame) (x .inside) (x .bracketed)
     where

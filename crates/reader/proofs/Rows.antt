@@ -1,6 +1,7 @@
 -- The members of an object that closes: they are a row in the table, and its first repeated name is the least of the
 -- object's own that repeat others.
 use Prim.Native.Nat.{ℕ, _*_, _+_, _<_, _≤_}
+use Rattle.entries.specs.Answer.{maxText}
 use Rattle.members.specs.Lists.{In}
 use Rattle.members.specs.Names.{nameAt}
 use Rattle.members.specs.Records.{word}
@@ -165,7 +166,7 @@ kin t pre post (Members.member q us v ms) k b h (Spelt.member c d e s) =
     subst⁻¹ (λ w. Kin t w (Members.member q us v ms) k) g (kin-more x y s us (some v) d e (c .inside))
 
 -- The row of an object's members, and its quotes.
-pub row : {t : Bytes} {w : Words} {ms : Members} {k : ℕ} (e : ℕ) → Kin t w ms k → e ≡ k + sizeMembers ms → length t ≤ 1_048_576 → e ≤ 1_048_576 → 4 * e ≤ length w → Row t w k e
+pub row : {t : Bytes} {w : Words} {ms : Members} {k : ℕ} (e : ℕ) → Kin t w ms k → e ≡ k + sizeMembers ms → length t ≤ maxText → e ≤ maxText → 4 * e ≤ length w → Row t w k e
 row {t} {w} {ms} {k} e x f h g l =
     record {
       few = g;

@@ -1,5 +1,6 @@
 -- Containers that a refusal left open are closed as if they ended there, so that their names are judged as well.
 use Prim.Native.Nat.{ℕ, _*_, _+_, _-_, _<_, _≤_}
+use Rattle.entries.specs.Answer.{maxText}
 use Rattle.reader.proofs.Behind.{joined}
 use Rattle.reader.proofs.Laying.{join, laid-framed, put-value}
 use Rattle.reader.proofs.Loop.{after-stop}
@@ -10,6 +11,7 @@ use Rattle.reader.specs.Tokens.{Flat}
 use Rattle.text.proofs.Machine.{Frame, Stack, depthOf}
 use Rattle.text.proofs.Offsets.{end, start}
 use Rattle.text.specs.Bytes.{Bytes}
+use Rattle.text.specs.Ceilings.{maxDepth}
 use Rattle.text.specs.Node.{Literal, Node}
 use Rattle.text.specs.Table.{Words, records, size, unnamed}
 use lib.ListN.{getD, length}
@@ -83,14 +85,14 @@ module _ {t : Bytes} {w tab m : Words} {k p n op first d : ℕ} (s : Stopped t w
       by (Stopped.named a ms us st es i b g q) = absurd (g refl)
 
 -- The marks of what is open are there to be read.
-pub stopped-marks : {t : Bytes} {w tab m : Words} {k p n op first d : ℕ} → Stopped t w tab m k p n unnamed op first d → 0 < d → (d ≤ 64) × (length m ≡ 64)
+pub stopped-marks : {t : Bytes} {w tab m : Words} {k p n op first d : ℕ} → Stopped t w tab m k p n unnamed op first d → 0 < d → (d ≤ maxDepth) × (length m ≡ maxDepth)
 stopped-marks (Stopped.read c _ z v es r) h = absurd (omega arith)
 stopped-marks (Stopped.outside es b _ z c g l) h = absurd (omega arith)
 stopped-marks (Stopped.inside f st es i b _ q) h = (q .laid .low, q .laid .marks)
 stopped-marks (Stopped.named a ms us st es i b g q) h = absurd (g refl)
 
 -- A name and the number of records are small.
-pub stopped-most : {t : Bytes} {w tab m : Words} {k p n nm op first d : ℕ} → length t ≤ 1_048_576 → Stopped t w tab m k p n nm op first d → (nm ≤ unnamed) × (n < unnamed)
+pub stopped-most : {t : Bytes} {w tab m : Words} {k p n nm op first d : ℕ} → length t ≤ maxText → Stopped t w tab m k p n nm op first d → (nm ≤ unnamed) × (n < unnamed)
 unfolding Named
 stopped-most h (Stopped.read c e z v es r) = (omega arith, omega (arith, r .few))
 stopped-most h (Stopped.outside es b e z c g l) = (omega arith, omega arith)

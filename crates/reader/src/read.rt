@@ -5,10 +5,10 @@ use crate::answer::refusal;
 use crate::answer::success;
 use crate::fill::fill;
 use crate::limits::MAX_TEXT;
-use crate::limits::RECORD_WORDS;
 use crate::limits::UNNAMED;
 use crate::record::clear;
 use crate::settle::settle;
+use members::record::RECORD_WORDS;
 use names::closing::closing_quote;
 
 // Reads `text`, the input of that number, and fills `table` with its records. A refused text leaves

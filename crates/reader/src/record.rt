@@ -5,7 +5,7 @@ ghost use mathlib.Core.Path.{_≡_};
 ghost use Prim.Native.Nat.{_*_, _+_, _≤_};
 ghost use Rattle.reader.specs.Tokens.{putAt};
 ghost use Rattle.text.specs.Table.{recordWords, unnamed};
-use crate::limits::RECORD_WORDS;
+use members::record::RECORD_WORDS;
 
 // Puts the record `n`: a value from `start` to `end`, whose name stands at `name`, with `next` behind it.
 pub fn put(table: &mut [u32], n: usize, start: usize, end: usize, name: usize, next: usize)
