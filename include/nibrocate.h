@@ -1,13 +1,14 @@
-/* Nibrocate: reads JSON texts into a lent table. Link with libnibrocate.a.
+/* Nibrocate: reads JSON texts into a lent table, and writes them canonically. Link with libnibrocate.a.
  *
  * Promises of every function here:
- * - It takes any bytes, of any length, and any length of table. No input is forbidden, none is undefined.
+ * - It takes any bytes, of any length, and any length of table and output. No input is forbidden, none is undefined.
  * - It never reads or writes outside the slices it is lent, and never writes to a text.
  * - It allocates nothing, keeps no state between calls, always returns, and may be called from many threads at once.
  * - Its answer and the whole content of each lent slice at exit depend only on what the slices held at entry.
  *
  * What it asks of the caller: each pointer leads to as many elements as the length beside it says, a table is aligned
- * as uint32_t is, and it overlaps nothing else that is lent to the same call. A null pointer with length 0 is fine.
+ * as uint32_t is, and a table or an output overlaps nothing else that is lent to the same call. A null pointer with
+ * length 0 is fine.
  */
 #ifndef NIBROCATE_H
 #define NIBROCATE_H
@@ -19,30 +20,35 @@
 extern "C" {
 #endif
 
-/* Sizes: a longer text is refused, and a table needs this many words for each byte of the text. */
+/* Sizes: a longer text is refused, be it read or to be written; a table needs this many words for each byte of the
+ * text; and a canonical text has at most this many bytes for each byte of the text. */
 #define NIB_TEXT_BYTES 1048576
 #define NIB_WORDS_PER_BYTE 4
+#define NIB_CANONICAL_GROWTH 6
 
 /* Word 2 of a record whose value has no name. */
 #define NIB_NO_NAME UINT32_C(4294967295)
 
-/* Why a text is refused. NIB_ACCEPTED is no refusal; only the number tells, never the count. */
+/* Why a call is refused. NIB_ACCEPTED is no refusal; only the number tells, never the count. */
 enum {
   NIB_ACCEPTED = 0,
-  NIB_TEXT_TOO_LONG = 1,   /* the text has over 1,048,576 bytes; place 0 */
-  NIB_TABLE_TOO_SHORT = 2, /* the table has fewer than 4 words for each byte of the text; place 0 */
-  NIB_UNFINISHED = 3,      /* the text ends too early, but could be continued; place is its length */
-  NIB_WRONG_BYTE = 4,      /* a byte that can't stand there, for no reason below; for 4 to 9, place is its offset */
-  NIB_TOO_DEEP = 5,        /* a bracket that would open a 65th container */
-  NIB_TOO_MANY_DIGITS = 6, /* a number with over 18 digits before and behind the point together */
-  NIB_EXPONENT = 7,        /* over 3 exponent digits, or a normal exponent outside -999 to 999 */
-  NIB_NAME_TWICE = 8,      /* the closing quote of a name that the same object already has, escapes resolved */
-  NIB_NOT_ASCII = 9        /* a byte of 80 (hex) or more as a character of a string */
+  NIB_TEXT_TOO_LONG = 1,     /* the text has over 1,048,576 bytes; place 0 */
+  NIB_TABLE_TOO_SHORT = 2,   /* the table has fewer than 4 words for each byte of the text; place 0 */
+  NIB_UNFINISHED = 3,        /* the text ends too early, but could be continued; place is its length */
+  NIB_WRONG_BYTE = 4,        /* a byte that can't stand there, for no reason below; for 4 to 9, place is its offset */
+  NIB_TOO_DEEP = 5,          /* a bracket that would open a 65th container */
+  NIB_TOO_MANY_DIGITS = 6,   /* a number with over 18 digits before and behind the point together */
+  NIB_EXPONENT = 7,          /* over 3 exponent digits, or a normal exponent outside -999 to 999 */
+  NIB_NAME_TWICE = 8,        /* the closing quote of a name that the same object already has, escapes resolved */
+  NIB_NOT_ASCII = 9,         /* a byte of 80 (hex) or more as a character of a string */
+  NIB_OUTPUT_TOO_SHORT = 12, /* the output is shorter than what is to be written; place is the length needed */
+  NIB_RESULT_TOO_LONG = 13   /* over 1,048,576 bytes would have to be written; place is the length needed */
 };
 
 /* The answer to a call.
- * Accepted: number, input and place are 0, and count is the number of records.
- * Refused: number says why, input is 1 (the text), place says where, and count is 0. */
+ * Accepted: number, input and place are 0, and count is the number of records (nib_read) or bytes written (nib_write).
+ * Refused: number says why, input is 1 (the text; for 1 to 9) or 3 (the output; for 12 and 13), place says where or how
+ * many bytes are needed, and count is 0. */
 typedef struct {
   uint32_t number, input, place, count;
 } nib_answer;
@@ -60,6 +66,27 @@ typedef struct {
  * - refused as 3 to 9: the first 4 x text_len words are 0, and every later word is as at entry.
  * Where several refusals apply, 1 goes before 2, and 2 before 3 to 9, of which only one ever applies. */
 nib_answer nib_read(const uint8_t *text, size_t text_len, uint32_t *table, size_t table_words);
+
+/* Writes the canonical text of what a text means to the front of the output: texts that mean the same give the same
+ * bytes, and texts that don't give different ones. It is itself a text, whose canonical text is itself.
+ * - There is no whitespace, and the members of each object stand in the order of their names, by 16-bit units: the
+ *   first difference decides, and a proper prefix comes first.
+ * - Zero is 0. Another number is - where negative, its digits without a point and without zeros at either end, and,
+ *   where the exponent isn't 0, e and the exponent, with - where negative, and never with + or with zeros before it.
+ * - In strings the units 20 to 7E (hex) stand plain, but \" and \\ for " and \; every other unit is \u and four
+ *   lower-case hex digits.
+ * No zero byte is put behind it.
+ *
+ * Where several refusals apply, those of nib_read go first, then 13, then 12; so 13 is given even where the output
+ * could hold the result. An output of length 0 asks for the length: where nothing else is refused, the answer is 12
+ * with the length needed as its place.
+ *
+ * The table at exit is as nib_read leaves it; in 12 and 13, as in success, it holds the records of the text.
+ * The output at exit:
+ * - accepted: the first count bytes are the canonical text, and every later byte is as at entry;
+ * - refused: every byte is as at entry. */
+nib_answer nib_write(const uint8_t *text, size_t text_len, uint32_t *table, size_t table_words, uint8_t *out,
+                     size_t out_len);
 
 #ifdef __cplusplus
 }

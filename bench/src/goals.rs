@@ -1,18 +1,10 @@
 //! The goals, and whether they are reached.
 
-use crate::contestants;
+use crate::entry::Entry;
 use crate::measure::Best;
 use crate::report;
 use crate::texts::Text;
 
-/// A text, a contestant, and the multiple of its speed that nib_read must reach.
-const RATIOS: [(&str, &str, f64); 5] = [
-    ("sheet", "serde_json IgnoredAny", 0.6),
-    ("pretty sheet", "serde_json IgnoredAny", 0.6),
-    ("sheet", "serde_json Value", 3.0),
-    ("random names", "serde_json Value", 1.3),
-    ("sheet", "jansson, no repeats", 8.0),
-];
 const GROWTH: f64 = 1.3;
 const WORST_MILLISECONDS: f64 = 60.0;
 
@@ -26,11 +18,12 @@ fn worst<'a>(texts: &'a [Text], numbers: impl Iterator<Item = f64>) -> (&'a str,
     named.max_by(|one, two| one.1.total_cmp(&two.1)).expect("there are texts")
 }
 
-pub fn report(texts: &[Text], speeds: &[Vec<Best>], growth: &[Vec<f64>]) {
-    println!("\n## Goals\n");
-    for (text, contestant, goal) in RATIOS {
+pub fn report(entry: &Entry, texts: &[Text], speeds: &[Vec<Best>], growth: &[Vec<f64>]) {
+    println!("\n## Goals of {}\n", entry.name());
+    for &(text, contestant, goal) in entry.ratios {
         let row = texts.iter().position(|one| one.name == text).expect("a text of that name");
-        let column = contestants::ALL.iter().position(|one| one.name == contestant).expect("a contestant of that name");
+        let column =
+            entry.contestants.iter().position(|one| one.name == contestant).expect("a contestant of that name");
         let ratio = report::ratio(&speeds[row], column);
         say(format!("{goal} times {contestant} on {text}"), format!("{ratio:.2}"), ratio >= goal);
     }

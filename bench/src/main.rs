@@ -1,9 +1,9 @@
-//! Times nib_read beside other readers of JSON, all in one run, and prints what came out as Markdown.
+//! Times each entry of the library beside its peers, all in one run, and prints what came out as Markdown.
 
 #[allow(dead_code)]
 #[path = "../../tests/src/answer.rs"]
 mod answer;
-mod contestants;
+mod entry;
 mod goals;
 #[allow(dead_code)]
 #[path = "../../tests/src/library.rs"]
@@ -13,18 +13,32 @@ mod padded;
 #[allow(dead_code)]
 #[path = "../../tests/src/random.rs"]
 mod random;
+mod reading;
 mod report;
 mod texts;
+mod writing;
 
-const SIZES: [usize; 3] = [64 << 10, 256 << 10, 1 << 20];
+use entry::Entry;
+
+const ENTRIES: [Entry; 2] = [reading::ENTRY, writing::ENTRY];
+const SIZES: [usize; 3] = [64 << 10, 256 << 10, entry::LONGEST];
+
+fn run(entry: &Entry, rounds: usize) {
+    let mut longest = (entry.texts)(entry::LONGEST);
+    longest.extend((entry.longest)());
+    let speeds = measure::beside_peers(entry, &longest, rounds);
+    report::speeds(entry, &longest, &speeds);
+    report::ratios(entry, &longest, &speeds);
+    let growth = measure::growth(entry, &SIZES, 3 * rounds);
+    report::growth(entry, &SIZES, &longest, &growth);
+    goals::report(entry, &longest, &speeds, &growth);
+}
 
 fn main() {
-    let rounds = std::env::args().nth(1).map_or(20, |rounds| rounds.parse().expect("a number of rounds"));
-    let longest = texts::all(SIZES[2]);
-    let speeds = measure::beside_peers(&longest, rounds);
-    report::speeds(&longest, &speeds);
-    report::ratios(&longest, &speeds);
-    let growth = measure::growth(&SIZES, 3 * rounds);
-    report::growth(&SIZES, &longest, &growth);
-    goals::report(&longest, &speeds, &growth);
+    let arguments: Vec<String> = std::env::args().collect();
+    let rounds = arguments.get(1).map_or(20, |rounds| rounds.parse().expect("a number of rounds"));
+    let is_asked = |entry: &&Entry| arguments.get(2).is_none_or(|name| name == entry.name());
+    let asked: Vec<&Entry> = ENTRIES.iter().filter(is_asked).collect();
+    assert!(!asked.is_empty(), "there is no entry of that name");
+    asked.into_iter().for_each(|entry| run(entry, rounds));
 }

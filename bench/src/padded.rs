@@ -1,6 +1,9 @@
 //! A text with zero bytes behind it, which simdjson and rapidjson ask for.
 
-use crate::contestants;
+extern "C" {
+    /// How many bytes behind a text simdjson may read.
+    fn peer_simdjson_padding() -> usize;
+}
 
 pub struct Padded {
     bytes: Vec<u8>,
@@ -11,7 +14,7 @@ impl Padded {
     pub fn new(text: String) -> Padded {
         let length = text.len();
         let mut bytes = text.into_bytes();
-        bytes.resize(length + 1 + contestants::padding(), 0);
+        bytes.resize(length + 1 + unsafe { peer_simdjson_padding() }, 0);
         Padded { bytes, length }
     }
 

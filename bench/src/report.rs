@@ -1,6 +1,6 @@
 //! The tables of the report, as Markdown.
 
-use crate::contestants;
+use crate::entry::Entry;
 use crate::measure::Best;
 use crate::texts::Text;
 
@@ -14,11 +14,11 @@ fn head(title: &str, first: &str, columns: &[String]) {
     row("---", columns.iter().map(|_| "---:".into()));
 }
 
-/// Megabytes in a second. A star marks an answer that isn't nib_read's.
-pub fn speeds(texts: &[Text], speeds: &[Vec<Best>]) {
-    let names = contestants::ALL.iter().map(|contestant| contestant.name.into());
+/// Megabytes of text in a second. A star marks an answer that isn't the library's.
+pub fn speeds(entry: &Entry, texts: &[Text], speeds: &[Vec<Best>]) {
+    let names = entry.contestants.iter().map(|contestant| contestant.name.into());
     let columns: Vec<String> = std::iter::once("bytes".into()).chain(names).collect();
-    head("MB/s (* where the text is judged unlike nib_read does)", "text", &columns);
+    head(&format!("MB/s (* where the text is judged unlike {} does)", entry.name()), "text", &columns);
     for (text, bests) in texts.iter().zip(speeds) {
         let cell = |best: &Best| {
             let star = if best.is_accepted == bests[0].is_accepted { "" } else { "*" };
@@ -28,14 +28,14 @@ pub fn speeds(texts: &[Text], speeds: &[Vec<Best>]) {
     }
 }
 
-/// How many times as fast nib_read is as a contestant.
+/// How many times as fast the library is as a contestant.
 pub fn ratio(bests: &[Best], contestant: usize) -> f64 {
     bests[contestant].time.as_secs_f64() / bests[0].time.as_secs_f64()
 }
 
-pub fn ratios(texts: &[Text], speeds: &[Vec<Best>]) {
-    let columns: Vec<String> = contestants::ALL[1..].iter().map(|contestant| contestant.name.into()).collect();
-    head("nib_read's speed as a multiple of each", "text", &columns);
+pub fn ratios(entry: &Entry, texts: &[Text], speeds: &[Vec<Best>]) {
+    let columns: Vec<String> = entry.contestants[1..].iter().map(|contestant| contestant.name.into()).collect();
+    head(&format!("{}'s speed as a multiple of each", entry.name()), "text", &columns);
     for (text, bests) in texts.iter().zip(speeds) {
         row(text.name, (1..bests.len()).map(|contestant| format!("{:.2}", ratio(bests, contestant))));
     }
@@ -46,10 +46,10 @@ pub fn growth_of(kind: &[f64]) -> f64 {
     kind[kind.len() - 1] / kind[0]
 }
 
-pub fn growth(sizes: &[usize], texts: &[Text], growth: &[Vec<f64>]) {
+pub fn growth(entry: &Entry, sizes: &[usize], texts: &[Text], growth: &[Vec<f64>]) {
     let sizes = sizes.iter().map(|size| format!("{} KiB", size >> 10));
     let columns: Vec<String> = sizes.chain(["growth".into()]).collect();
-    head("nib_read's nanoseconds for a byte as texts grow", "text", &columns);
+    head(&format!("{}'s nanoseconds for a byte as texts grow", entry.name()), "text", &columns);
     for (text, kind) in texts.iter().zip(growth) {
         let times = kind.iter().map(|time| format!("{time:.3}"));
         row(text.name, times.chain([format!("{:.2}", growth_of(kind))]));

@@ -60,12 +60,12 @@ impl Fenced {
         unsafe { std::slice::from_raw_parts(place, bytes.len()) }
     }
 
-    /// The words at a fence, to be written.
-    pub fn words(&mut self, words: &[u32], side: Side) -> &mut [u32] {
-        let place = self.place(4 * words.len(), side).cast::<u32>();
+    /// Words or bytes at a fence, to be written.
+    pub fn lent<T: Copy>(&mut self, items: &[T], side: Side) -> &mut [T] {
+        let place = self.place(std::mem::size_of_val(items), side).cast::<T>();
         unsafe {
-            place.copy_from(words.as_ptr(), words.len());
-            std::slice::from_raw_parts_mut(place, words.len())
+            place.copy_from(items.as_ptr(), items.len());
+            std::slice::from_raw_parts_mut(place, items.len())
         }
     }
 }

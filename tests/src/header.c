@@ -4,7 +4,7 @@
 #include <string.h>
 
 /* Reads 01's whole case and a text with a repeated name. The number of the first check that fails, or 0. */
-int check_header(void) {
+static int check_read(void) {
   const char *accepted = "{\"a\":[1,true]}";
   const char *refused = "{\"a\":1,\"\\u0061\":2}";
   const uint32_t records[16] = {0, 14, NIB_NO_NAME, 4, 5, 13, 1, 4, 6, 7, NIB_NO_NAME, 3, 8, 12, NIB_NO_NAME, 4};
@@ -20,4 +20,31 @@ int check_header(void) {
   nib_answer nothing = nib_read(NULL, 0, NULL, 0);
   if (nothing.number != NIB_UNFINISHED || nothing.place != 0) return 4;
   return 0;
+}
+
+/* Writes one of 01's examples, asks for its length, and writes a text with a repeated name. */
+static int check_write(void) {
+  const char *text = "{\"b\":1.50,\"a\":\"\\n\"}";
+  const char *canonical = "{\"a\":\"\\u000a\",\"b\":15e-1}";
+  const char *twice = "{\"a\":1,\"\\u0061\":2}";
+  uint32_t table[NIB_WORDS_PER_BYTE * 19];
+  uint8_t out[NIB_CANONICAL_GROWTH * 19];
+
+  nib_answer length = nib_write((const uint8_t *)text, strlen(text), table, 76, NULL, 0);
+  if (length.number != NIB_OUTPUT_TOO_SHORT || length.input != 3 || length.place != 24 || length.count != 0) return 11;
+
+  out[24] = '#';
+  nib_answer written = nib_write((const uint8_t *)text, strlen(text), table, 76, out, sizeof out);
+  if (written.number != NIB_ACCEPTED || written.input != 0 || written.place != 0 || written.count != 24) return 12;
+  if (memcmp(out, canonical, 24) != 0 || out[24] != '#') return 13;
+
+  nib_answer refused = nib_write((const uint8_t *)twice, strlen(twice), table, 76, out, sizeof out);
+  if (refused.number != NIB_NAME_TWICE || refused.input != 1 || refused.place != 14 || refused.count != 0) return 14;
+  if (memcmp(out, canonical, 24) != 0) return 15;
+  return 0;
+}
+
+int check_header(void) {
+  int failed = check_read();
+  return failed != 0 ? failed : check_write();
 }

@@ -9,11 +9,14 @@ mod group;
 mod header;
 mod lent;
 mod library;
+mod members;
 mod random;
 mod reading;
 mod reference;
+mod respell;
 mod spell;
 mod texts;
+mod writing;
 
 use group::{Group, Test};
 use std::io::Write;
@@ -30,7 +33,7 @@ fn passes(&(name, run): &Test) -> bool {
 }
 
 fn main() -> ExitCode {
-    let tests = [&header::TESTS, &reading::tests()[..]].concat();
+    let tests = [&header::TESTS, &reading::tests()[..], &writing::tests()[..]].concat();
     let passed = tests.iter().filter(|test| passes(test)).count();
     let failed = tests.len() - passed;
     println!("{passed} passed, {failed} failed");

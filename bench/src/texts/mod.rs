@@ -5,6 +5,8 @@ mod sheet;
 mod values;
 mod worst;
 
+use crate::entry::LONGEST;
+use crate::library;
 use crate::padded::Padded;
 
 pub struct Text {
@@ -41,10 +43,38 @@ const REFUSED: [Kind; 3] = [
     ("random names, unfinished", worst::unfinished),
 ];
 
-pub fn all(size: usize) -> Vec<Text> {
-    let make =
-        |is_accepted: bool| move |&(name, kind): &Kind| Text { name, padded: Padded::new(kind(size)), is_accepted };
-    ACCEPTED.iter().map(make(true)).chain(REFUSED.iter().map(make(false))).collect()
+/// A text of each kind, made by a way to make one of at most so many bytes.
+fn each(make: impl Fn(fn(usize) -> String) -> String) -> Vec<Text> {
+    let text = |&(name, kind): &Kind, is_accepted| Text { name, padded: Padded::new(make(kind)), is_accepted };
+    let accepted = ACCEPTED.iter().map(|kind| text(kind, true));
+    accepted.chain(REFUSED.iter().map(|kind| text(kind, false))).collect()
+}
+
+pub fn to_read(size: usize) -> Vec<Text> {
+    each(|kind| kind(size))
+}
+
+/// Texts that have at most so many bytes, and as many at most when they are written.
+pub fn to_write(size: usize) -> Vec<Text> {
+    each(|kind| {
+        let (mut room, mut text) = (size, kind(size));
+        while length_written(&text) > size {
+            room = room * size / length_written(&text);
+            text = kind(room);
+        }
+        text
+    })
+}
+
+/// The length of the canonical text, which an empty output is refused with. For a refused text it is a place in it.
+fn length_written(text: &str) -> usize {
+    library::write(text.as_bytes(), &mut vec![0; 4 * text.len()], &mut []).place as usize
+}
+
+/// A text that grows by six when it is written, and so is refused for the length of its result.
+pub fn too_long_when_written() -> Vec<Text> {
+    let padded = Padded::new(worst::delete_characters(LONGEST));
+    vec![Text { name: "delete characters, too long when written", padded, is_accepted: false }]
 }
 
 /// The items that fit, parted by a separator, between what opens and what closes.

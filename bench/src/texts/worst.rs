@@ -28,6 +28,11 @@ pub fn objects_of_sixteen(size: usize) -> String {
     fill(size, ARRAY, objects)
 }
 
+/// Strings of the one character that is plain and is written as an escape.
+pub fn delete_characters(size: usize) -> String {
+    fill(size, ARRAY, std::iter::repeat(format!("\"{}\"", "\x7f".repeat(40))))
+}
+
 fn with_end(mut text: String, gone: usize, end: &str) -> String {
     text.truncate(text.len() - gone);
     text + end

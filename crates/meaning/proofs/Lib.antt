@@ -1,11 +1,13 @@
 -- Demand 2, proved of the definitions.
 pub mod Keeps
 pub mod Members
+pub mod Append
 pub mod Order
 pub mod Sorting
 pub mod Reading
 pub mod NumberTrip
 pub mod RoundTrip
+pub mod Weight
 pub mod NumberLength
 pub mod Length
 pub mod Merging

@@ -74,7 +74,7 @@ digits-length (suc n) c m o l = by (ltb c 10) refl m l (λ m h. digits-length n 
     by false e zero l f = let k : 10 ≤ c = ltb-false c 10 e in absurd (omega arith)
     by false e (suc m) l f = let h : c / 10 < 10 ^ suc m = omega arith in omega (arith, f m h)
 
-digits-most : (n c : ℕ) (o : Bytes) → length (putDigits n c o) ≤ n + length o
+pub digits-most : (n c : ℕ) (o : Bytes) → length (putDigits n c o) ≤ n + length o
 unfolding putDigits
 digits-most zero c o = omega arith
 digits-most (suc n) c o = by (ltb c 10) (digits-most n (c / 10) ((code "0" + c % 10) ∷ o))
@@ -84,7 +84,7 @@ digits-most (suc n) c o = by (ltb c 10) (digits-most n (c / 10) ((code "0" + c %
     by true h = omega arith
     by false h = omega arith
 
-power-length : (down : Bool) (e : ℕ) (o : Bytes) → length (putPower down e o) ≤ 5 + length o
+pub power-length : (down : Bool) (e : ℕ) (o : Bytes) → length (putPower down e o) ≤ 5 + length o
 unfolding putPower
 power-length down e o = by (eqb e 0)
   where

@@ -39,7 +39,7 @@ digit-of n l = le-both (code "0") (code "0" + n) (code "0" + n) (code "9") (omeg
 nonzero-of : (n : ℕ) → n < 10 → 0 < n → T (isNonzero (code "0" + n))
 nonzero-of n l h = le-both (code "1") (code "0" + n) (code "0" + n) (code "9") (omega arith) (omega arith)
 
-nonzero-digit : (b : ℕ) → T (isNonzero b) → T (isDigit b)
+pub nonzero-digit : (b : ℕ) → T (isNonzero b) → T (isDigit b)
 nonzero-digit b t =
     let l : code "1" ≤ b = leb→le (code "1") b (and-left (leb (code "1") b) (leb b (code "9")) t) in
     both (leb (code "0") b) (leb b (code "9")) (le→leb (code "0") b (omega arith)) (and-right (leb (code "1") b) (leb b (code "9")) t)

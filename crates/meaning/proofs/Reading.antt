@@ -111,7 +111,7 @@ normal-keeps neg c n f down e k l (Allowed.allowed a b) =
         let (x, h) = strip-normal n c (omega arith) l in
         range down (omega arith) h t
 
-number-keeps : {i o : Source} {x : Decimal} → Number house i o x → Normal x
+pub number-keeps : {i o : Source} {x : Decimal} → Number house i o x → Normal x
 number-keeps (Number.number {neg = neg} {down = down} {ds = ds} {fs = fs} {es = es} m w f p a) =
     normal-keeps neg (valueFrom 0 (ds ++ fs)) (length (ds ++ fs)) (length fs) down (valueFrom 0 es) (length es) (number-below w f) a
 

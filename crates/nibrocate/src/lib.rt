@@ -2,3 +2,4 @@
 // them: nothing is asked first, nothing but the lent slices is touched, and one answer and one content of
 // each slice at exit is possible.
 pub mod read;
+pub mod write;

@@ -14,7 +14,8 @@ use Rattle.reader.specs.Repeats.{Least, again, own}
 use Rattle.reader.specs.Stacks.{Spelt, backMembers}
 use Rattle.text.proofs.Machine.{namesOf}
 use Rattle.text.proofs.Names.{among-first, among-later, same-is}
-use Rattle.text.proofs.Offsets.{end, start}
+use Rattle.text.proofs.Offsets.{end, head-words, start}
+use Rattle.text.proofs.Records.{size-some}
 use Rattle.text.proofs.Tests.{either, true-is}
 use Rattle.text.specs.Bytes.{Bytes, Units}
 use Rattle.text.specs.Ceilings.{among, same}
@@ -26,22 +27,12 @@ use mathlib.Core.Bool.{Bool, cond, false, true}
 use mathlib.Core.List.{List, [], _++_, _∷_, append-assoc}
 use mathlib.Core.Logic.{_⊎_, inl, inr}
 use mathlib.Core.Path.{_∙_, _≡_, ap, refl, subst, subst⁻¹, sym}
-use native.Mathlib.Numerals.{add-one}
 use native.Mathlib.Omega.{arith}
 
 -- The opening quotes of the members' names, in the order of the text.
 unfoldable pub quotes : Members → List ℕ
 quotes Members.empty = []
 quotes (Members.member q us v ms) = quotes ms ++ (q ∷ [])
-
--- The record of a value comes first among its words.
-head-words : (v : Node) (m k : ℕ) → (r : Words) × (records v m k ≡ start v ∷ end v ∷ m ∷ (k + size v) ∷ r)
-unfolding records size start end
-head-words (Node.literal p q w) m k = ([], ap (λ x. p ∷ q ∷ m ∷ x ∷ []) (sym (add-one k)))
-head-words (Node.string p q us) m k = ([], ap (λ x. p ∷ q ∷ m ∷ x ∷ []) (sym (add-one k)))
-head-words (Node.number p q x) m k = ([], ap (λ x. p ∷ q ∷ m ∷ x ∷ []) (sym (add-one k)))
-head-words (Node.array p q vs) m k = (_, refl)
-head-words (Node.object p q ms) m k = (_, refl)
 
 -- Where the words of `v` stand as those of record `r`.
 record Stands (w : Words) (v : Node) (q r : ℕ) : Type 0 where
@@ -136,14 +127,6 @@ module _ {t : Bytes} {w : Words} {q : ℕ} {v : Node} {ms : Members} {k : ℕ} (
       rising-by z z′ (inr f) (inl j) l = absurd (omega (arith, x .below z′ j))
       rising-by z z′ (inr f) (inr g) l = absurd (omega arith)
 
-some : (v : Node) → 1 ≤ size v
-unfolding size
-some (Node.literal p q w) = omega arith
-some (Node.string p q us) = omega arith
-some (Node.number p q x) = omega arith
-some (Node.array p q vs) = omega arith
-some (Node.object p q ms) = omega arith
-
 pub kin : (t pre post : Words) (ms : Members) (k b : ℕ) → length pre ≡ 4 * k → Spelt t ms b → Kin t (pre ++ (backMembers ms k ++ post)) ms k
 unfolding backMembers size quotes named
 kin t pre post Members.empty k b h s =
@@ -163,7 +146,7 @@ kin t pre post (Members.member q us v ms) k b h (Spelt.member c d e s) =
     let l : length (pre ++ backMembers ms k) ≡ 4 * r = length-append pre (backMembers ms k) ∙ omega (arith, backMembers-length ms k) in
     let x : Kin t (pre ++ (backMembers ms k ++ (ws ++ post))) ms k = kin t pre (ws ++ post) ms k q h s in
     let y : Stands (pre ++ (backMembers ms k ++ (ws ++ post))) v q r = subst (λ w. Stands w v q r) g′ (stands (pre ++ backMembers ms k) post v q r l) in
-    subst⁻¹ (λ w. Kin t w (Members.member q us v ms) k) g (kin-more x y s us (some v) d e (c .inside))
+    subst⁻¹ (λ w. Kin t w (Members.member q us v ms) k) g (kin-more x y s us (size-some v) d e (c .inside))
 
 -- The row of an object's members, and its quotes.
 pub row : {t : Bytes} {w : Words} {ms : Members} {k : ℕ} (e : ℕ) → Kin t w ms k → e ≡ k + sizeMembers ms → length t ≤ maxText → e ≤ maxText → 4 * e ≤ length w → Row t w k e

@@ -72,7 +72,7 @@ fn scalar_at(text: &[u8], i: usize) -> Reach
 }
 
 // Whether `b` opens a container.
-fn is_open(b: u8) -> bool
+pub fn is_open(b: u8) -> bool
     ensures { λ r. ⌜ r ≡ opensContainer b ⌝ }
 {
     (b == b'[') | (b == b'{')

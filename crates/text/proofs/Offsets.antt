@@ -10,7 +10,8 @@ use Rattle.text.specs.Node.{Members, Node, Nodes}
 use Rattle.text.specs.Table.{Words, records, recordsMembers, recordsAll, size, sizeAll, sizeMembers, table, unnamed}
 use lib.ListN.{length}
 use mathlib.Core.List.{List, [], _∷_}
-use mathlib.Core.Path.{_≡_}
+use mathlib.Core.Path.{_≡_, ap, refl, sym}
+use native.Mathlib.Numerals.{add-one}
 use native.Mathlib.Omega.{arith}
 use Rattle.text.specs.Grammar as rule
 
@@ -28,6 +29,15 @@ end (Node.string p q us) = q
 end (Node.number p q x) = q
 end (Node.array p q vs) = q
 end (Node.object p q ms) = q
+
+-- The record of a value comes first among its words.
+pub head-words : (v : Node) (m k : ℕ) → (r : Words) × (records v m k ≡ start v ∷ end v ∷ m ∷ (k + size v) ∷ r)
+unfolding records size start end
+head-words (Node.literal p q w) m k = ([], ap (λ x. p ∷ q ∷ m ∷ x ∷ []) (sym (add-one k)))
+head-words (Node.string p q us) m k = ([], ap (λ x. p ∷ q ∷ m ∷ x ∷ []) (sym (add-one k)))
+head-words (Node.number p q x) m k = ([], ap (λ x. p ∷ q ∷ m ∷ x ∷ []) (sym (add-one k)))
+head-words (Node.array p q vs) m k = (_, refl)
+head-words (Node.object p q ms) m k = (_, refl)
 
 -- Every value takes at least a byte of its own.
 pub text-size : {C : Ceilings} {t : Bytes} {v : Node} → Text C t v → size v ≤ length t

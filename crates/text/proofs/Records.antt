@@ -1,5 +1,5 @@
 -- The lengths of tables: each value has a record, of four words.
-use Prim.Native.Nat.{_*_, _+_, suc, ℕ}
+use Prim.Native.Nat.{_*_, _+_, _≤_, suc, ℕ}
 use Rattle.text.specs.Node.{Members, Node, Nodes}
 use Rattle.text.specs.Table.{recordWords, records, recordsMembers, recordsAll, size, sizeAll, sizeMembers, table, unnamed}
 use lib.ListN.{length, length-append}
@@ -25,6 +25,15 @@ mutual
   recordsMembers-length Members.empty k = refl
   recordsMembers-length (Members.member q us v ms) k =
       omega (arith, length-append (records v q k) (recordsMembers ms (k + size v)), records-length v q k, recordsMembers-length ms (k + size v))
+
+-- Every value has a record.
+pub size-some : (v : Node) → 1 ≤ size v
+unfolding size
+size-some (Node.literal p q w) = omega arith
+size-some (Node.string p q us) = omega arith
+size-some (Node.number p q x) = omega arith
+size-some (Node.array p q vs) = omega arith
+size-some (Node.object p q ms) = omega arith
 
 -- The table of a text has a record for each value in it.
 pub table-length : (v : Node) → length (table v) ≡ recordWords * size v

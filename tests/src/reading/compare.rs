@@ -14,8 +14,8 @@ impl Group {
     /// Compares answer and table, guards included, of the readings of a text with a table of this many words.
     pub fn read_into(&mut self, text: &[u8], words: usize) {
         let (mut expected, mut got) = (Lent::new(words), Lent::new(words));
-        let expected_answer = reference::read(text, expected.table());
-        let got_answer = library::read(text, got.table());
+        let expected_answer = reference::read(text, expected.slice());
+        let got_answer = library::read(text, got.slice());
         let difference = expected.difference(&got);
         self.accepted += usize::from(expected_answer.number == 0);
         self.judge(expected_answer == got_answer && difference.is_none(), || {
@@ -27,7 +27,7 @@ impl Group {
 
     /// Compares the reference's answer with one that is known, and the library's reading with the reference's.
     pub fn read_known(&mut self, text: &[u8], known: Answer) {
-        let answer = reference::read(text, Lent::new(4 * text.len()).table());
+        let answer = reference::read(text, Lent::new(4 * text.len()).slice());
         self.judge(answer == known, || format!("{}\n  known {known:?}\n  reference {answer:?}", shown(text)));
         self.read(text);
     }

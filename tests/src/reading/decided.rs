@@ -6,7 +6,7 @@ use crate::group::{Group, Test};
 pub const TESTS: [Test; 1] = [("places that were decided", decided)];
 
 /// Text, number and place.
-const REFUSED: [(&[u8], u32, usize); 33] = [
+pub const REFUSED: [(&[u8], u32, usize); 33] = [
     (b" \t\n\r", 3, 4),
     (b"1e9999", 7, 5),
     (b"1000e997", 7, 7),

@@ -7,7 +7,7 @@ use crate::library;
 pub const TESTS: [Test; 2] = [("examples of 01 on each edge", each_edge), ("whole case of 01", whole_case)];
 
 /// Text, number and place.
-const REFUSED: [(&[u8], u32, usize); 18] = [
+pub const REFUSED: [(&[u8], u32, usize); 18] = [
     (b"", 3, 0),
     (b"-", 3, 1),
     (b"01", 4, 1),

@@ -16,7 +16,7 @@ fn beside_fences(group: &mut Group) {
         for side in [Side::Before, Side::Behind] {
             for length in [4 * text.len(), (4 * text.len()).saturating_sub(1)] {
                 let mut expected = vec![9; length];
-                let got = words.words(&expected, side);
+                let got = words.lent(&expected, side);
                 let answer = library::read(bytes.bytes(&text, side), got);
                 group.accepted += usize::from(answer.number == 0);
                 let is_equal = answer == reference::read(&text, &mut expected) && got == expected;

@@ -2,9 +2,9 @@
 
 mod bytes;
 mod compare;
-mod decided;
+pub mod decided;
 mod depth;
-mod examples;
+pub mod examples;
 mod fences;
 mod generated;
 mod long;
@@ -14,7 +14,7 @@ mod objects;
 mod short;
 mod spaces;
 mod strings;
-mod tables;
+pub mod tables;
 mod twins;
 
 use crate::group::Test;

@@ -1,6 +1,7 @@
 //! Names of one object: equal through different spellings, prefixes of each other, twins at every distance.
 
 use crate::group::{Group, Test};
+use crate::members::object;
 use crate::random::Random;
 use crate::spell;
 
@@ -11,12 +12,6 @@ pub const TESTS: [Test; 5] = [
     ("twins at every distance", distances),
     ("twins at every distance with another fault", faults),
 ];
-
-/// An object of these names, each with a value.
-pub fn object(names: &[String]) -> String {
-    let members: Vec<String> = names.iter().map(|name| format!("{name}:0")).collect();
-    format!("{{{}}}", members.join(","))
-}
 
 fn spellings(group: &mut Group) {
     let units = [0x00, 0x08, 0x0A, 0x0F, 0x22, 0x2F, 0x41, 0x5C, 0x61, 0x62, 0x6E, 0x75, 0x7F, 0xE9, 0xD800, 0xFFFF];

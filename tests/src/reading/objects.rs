@@ -1,9 +1,8 @@
 //! Objects of thousands of members in many orders and spellings, with and without a twin.
 
-use super::names::object;
 use crate::group::{Group, Test};
+use crate::members::{object, ordered, plain, SPELLINGS};
 use crate::random::Random;
-use crate::spell;
 
 pub const TESTS: [Test; 5] = [
     ("large objects in many orders, with and without a twin", orders),
@@ -12,36 +11,6 @@ pub const TESTS: [Test; 5] = [
     ("large objects inside large objects", inside),
     ("many objects of a few members", many),
 ];
-
-/// How a name is made of a number, so that names and numbers have the same order.
-type Spelling = fn(usize) -> String;
-
-fn plain(number: usize) -> String {
-    format!("\"{number:06}\"")
-}
-
-fn escaped(number: usize) -> String {
-    spell::quoted_in_hex(&spell::units(&format!("{number:06}")))
-}
-
-fn long_prefix(number: usize) -> String {
-    format!("\"{}{number:06}\"", "department/".repeat(9))
-}
-
-/// Names of many lengths, of which many are prefixes of many others.
-fn of_many_lengths(number: usize) -> String {
-    format!("\"{}\"", format!("{:b}", number + 1).replace('0', "\\u0030"))
-}
-
-/// The numbers below the limit: sorted, reversed, by chance, and from both ends in turns.
-fn ordered(random: &mut Random, limit: usize) -> [Vec<usize>; 4] {
-    let sorted: Vec<usize> = (0..limit).collect();
-    let reversed = sorted.iter().rev().copied().collect();
-    let mut shuffled = sorted.clone();
-    random.shuffle(&mut shuffled);
-    let in_turns = sorted.iter().map(|&rank| if rank % 2 == 0 { rank / 2 } else { limit - 1 - rank / 2 }).collect();
-    [sorted, reversed, shuffled, in_turns]
-}
 
 /// The numbers as they are, and with a twin near the start, near the end, and from one end to the other.
 fn with_twins(numbers: &[usize]) -> [Vec<usize>; 5] {
@@ -55,7 +24,7 @@ fn with_twins(numbers: &[usize]) -> [Vec<usize>; 5] {
 
 fn orders(group: &mut Group) {
     let mut random = Random::new(30);
-    for spelling in [plain, escaped, long_prefix, of_many_lengths] as [Spelling; 4] {
+    for spelling in SPELLINGS {
         for members in [100, 1001, 4096] {
             for numbers in ordered(&mut random, members) {
                 for twins in with_twins(&numbers) {

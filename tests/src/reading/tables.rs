@@ -12,7 +12,7 @@ pub const TESTS: [Test; 3] = [
 ];
 
 /// One text or two of each verdict from 3 to 9 and of acceptance.
-const VERDICTS: [&[u8]; 12] = [
+pub const VERDICTS: [&[u8]; 12] = [
     b"",
     b"1",
     br#"{"a":[1,true]}"#,

@@ -1,31 +1,20 @@
-//! The readers that are timed. Each tells whether it accepts the text, and gives back what it allocated.
+//! nib_read beside other readers.
 
-use crate::library;
-use crate::padded::Padded;
+use crate::entry::{Contestant, Entry, Ratio};
+use crate::{library, texts};
 use serde::de::IgnoredAny;
 use serde_json::Value;
 
 extern "C" {
     fn peer_simdjson(text: *const u8, length: usize) -> bool;
-    fn peer_simdjson_padding() -> usize;
     fn peer_rapidjson(text: *const u8, length: usize) -> bool;
     fn peer_jansson(text: *const u8, length: usize) -> bool;
 }
 
-/// How many bytes behind a text simdjson may read.
-pub fn padding() -> usize {
-    unsafe { peer_simdjson_padding() }
-}
+pub const ENTRY: Entry = Entry { contestants: &CONTESTANTS, ratios: &RATIOS, texts: texts::to_read, longest: Vec::new };
 
-pub struct Contestant {
-    pub name: &'static str,
-    /// Reads the text. The table is for nib_read alone, and lent again and again without being cleared.
-    pub accepts: fn(&Padded, &mut [u32]) -> bool,
-}
-
-/// nib_read is the first.
-pub const ALL: [Contestant; 6] = [
-    Contestant { name: "nib_read", accepts: |padded, table| library::read(padded.text(), table).number == 0 },
+const CONTESTANTS: [Contestant; 6] = [
+    Contestant { name: "nib_read", accepts: |padded, lent| library::read(padded.text(), &mut lent.table).number == 0 },
     Contestant {
         name: "serde_json IgnoredAny",
         accepts: |padded, _| serde_json::from_slice::<IgnoredAny>(padded.text()).is_ok(),
@@ -40,4 +29,12 @@ pub const ALL: [Contestant; 6] = [
         name: "jansson, no repeats",
         accepts: |padded, _| unsafe { peer_jansson(padded.start(), padded.len()) },
     },
+];
+
+const RATIOS: [Ratio; 5] = [
+    ("sheet", "serde_json IgnoredAny", 0.6),
+    ("pretty sheet", "serde_json IgnoredAny", 0.6),
+    ("sheet", "serde_json Value", 3.0),
+    ("random names", "serde_json Value", 1.3),
+    ("sheet", "jansson, no repeats", 8.0),
 ];

@@ -1,0 +1,26 @@
+use Rattle.spell.proofs.UnitLaws.{hex-high, hex-low}
+use borrow.Author.Needs.{needs}
+use Rattle.spell.proofs.unit.hex_digit.Statement.{statement}
+use Rattle.spell.proofs.unit.hex_digit.Tie as tie
+
+cast-result : tie.Need-cast-result
+cast-result c = search needs
+
+add-result : tie.Need-add-result
+add-result c = search needs
+
+returns : tie.Need-returns
+returns c = hex-low (c .before .args .n) (c .if1 .taken)
+
+cast-result-2 : tie.Need-cast-result-2
+cast-result-2 c = search needs
+
+add-result-2 : tie.Need-add-result-2
+add-result-2 c = search needs
+
+returns-2 : tie.Need-returns-2
+returns-2 c = hex-high (c .before .args .n) (c .if1 .left)
+
+pub hex-digit-spec : {M : Type 1} → statement M
+hex-digit-spec =
+    tie.close (tie.spec cast-result add-result returns cast-result-2 add-result-2 returns-2)

@@ -1,0 +1,5 @@
+pub mod Sources
+pub mod Stretches
+pub mod Holding
+pub mod Kin
+pub mod Linked
