@@ -7,17 +7,16 @@ use Rattle.meaning.proofs.NumberLength.{digits-most}
 use Rattle.spell.proofs.Joining.{Joined}
 use Rattle.spell.proofs.Widths.{width}
 use Rattle.spell.specs.Normals.{NormalOf, meant}
-use Rattle.spell.specs.Puts.{Puts}
 use Rattle.spell.specs.Scalars.{Numeral}
 use Rattle.spell.specs.declared.normal.Normal.{Normal}
 use Rattle.text.specs.Bytes.{Bytes}
 use Rattle.text.specs.Ceilings.{maxDigits, maxPower, maxPowerDigits}
 use Rattle.text.specs.Decimal.{Decimal}
 use borrow.Author.Tests.{eq-eqb, ne-eqb}
-use lib.ListN.{length, length-append, set}
+use lib.ListN.{length, length-append}
 use mathlib.Core.Bool.{Bool, false, true}
 use mathlib.Core.List.{[], _++_, _∷_}
-use mathlib.Core.Path.{_∙_, _≡_, ap, refl, subst⁻¹, sym}
+use mathlib.Core.Path.{_∙_, _≡_, ap, subst⁻¹, sym}
 use native.Mathlib.Omega.{arith}
 
 pub sign-minus : {s : Bool} → s ≡ true → putSign s [] ≡ code "-" ∷ []

@@ -1,8 +1,7 @@
 -- The values of a text are held by the table that the reader leaves.
 use Prim.Native.Char.{code}
-use Prim.Native.Nat.{_%_, _*_, _+_, _<_, _≤_, suc, ℕ}
+use Prim.Native.Nat.{_*_, _+_, _<_, _≤_, suc, ℕ}
 use Rattle.entries.specs.Answer.{maxText, over}
-use Rattle.members.specs.Links.{lowPart}
 use Rattle.members.specs.Records.{maxRecords, word}
 use Rattle.members.specs.Names.{nameAt}
 use Rattle.names.proofs.Spelling.{spelt}
@@ -16,7 +15,7 @@ use Rattle.text.proofs.Offsets.{Inside, InsideAll, InsideMembers, end, head-wor
 use Rattle.text.proofs.Records.{records-length, size-some, table-length}
 use Rattle.text.proofs.Takes.{chars-take, place, value-takes}
 use Rattle.text.proofs.Tests.{or-right, true-is}
-use Rattle.text.specs.Bytes.{Bytes, Source, Units, from, isDigit, isNonzero}
+use Rattle.text.specs.Bytes.{Bytes, Source, Units, from, isDigit}
 use Rattle.text.specs.Ceilings.{house}
 use Rattle.text.specs.Decimal.{Decimal}
 use Rattle.text.specs.Grammar.{Array, Elements, Member, Named, Object, Rest, Text, Value}
@@ -29,10 +28,10 @@ use Rattle.values.proofs.Sources.{At, at-byte, at-drop, at-inside, at-n
 use Rattle.values.proofs.Stretches.{Has, has-front, has-left, has-right}
 use Rattle.values.specs.Children.{Child, elements, members}
 use Rattle.values.specs.Held.{Held, HeldAll, Holds, Recorded, Spelt, Unlinked}
-use lib.Dec.{T, eqb, leb, leb→le}
+use lib.Dec.{eqb}
 use lib.ListN.{drop, getD, length, length-append, length-drop}
-use mathlib.Core.Bool.{Bool, _&&_, true}
-use mathlib.Core.List.{List, [], _++_, _∷_}
+use mathlib.Core.Bool.{true}
+use mathlib.Core.List.{List, _++_, _∷_}
 use mathlib.Core.Path.{_∙_, _≡_, ap, refl, subst, sym}
 use native.Mathlib.Numerals.{add-one}
 use native.Mathlib.Omega.{arith}

@@ -1,6 +1,5 @@
 -- The values inside a container are siblings in the table.
-use Prim.Native.Nat.{_*_, _+_, _<_, _≤_, suc, ℕ}
-use Rattle.entries.specs.Answer.{maxText}
+use Prim.Native.Nat.{_*_, _+_, _<_, _≤_, ℕ}
 use Rattle.members.proofs.Lineage.{siblings-between}
 use Rattle.members.specs.Lists.{In}
 use Rattle.members.specs.Records.{maxRecords, word}
@@ -11,10 +10,10 @@ use Rattle.text.specs.Bytes.{Bytes}
 use Rattle.text.specs.Node.{Members, Node, Nodes}
 use Rattle.text.specs.Table.{Words, size, sizeAll, sizeMembers, unnamed}
 use Rattle.values.specs.Children.{Child, elements, members, places, sizes}
-use Rattle.values.specs.Held.{Held, HeldAll, Recorded, Spelt, Unlinked}
+use Rattle.values.specs.Held.{Held, HeldAll, Spelt, Unlinked}
 use lib.ListN.{length}
-use mathlib.Core.List.{List, [], _∷_}
-use mathlib.Core.Path.{_≡_, ap, refl, subst, subst⁻¹, sym}
+use mathlib.Core.List.{List, []}
+use mathlib.Core.Path.{_≡_, ap, refl, subst, subst⁻¹}
 use native.Mathlib.Omega.{arith}
 
 pub elements-size : (vs : Nodes) → sizes (elements vs) ≡ sizeAll vs

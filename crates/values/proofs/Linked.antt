@@ -5,14 +5,14 @@ use Rattle.members.specs.Lists.{In}
 use Rattle.members.specs.Records.{word}
 use Rattle.text.proofs.Records.{size-some}
 use Rattle.text.specs.Bytes.{Bytes}
-use Rattle.text.specs.Node.{Members, Node, Nodes}
-use Rattle.text.specs.Table.{Words, size, sizeAll, sizeMembers}
+use Rattle.text.specs.Node.{Node}
+use Rattle.text.specs.Table.{Words, size}
 use Rattle.values.proofs.Kin.{elements-size, held-record, held-siblings, members-size}
 use Rattle.members.proofs.Lineage.{siblings-between}
-use Rattle.values.specs.Children.{Child, elements, members, places, sizes}
-use Rattle.values.specs.Held.{Held, HeldAll, Holds, Recorded, Spelt, Unlinked}
-use mathlib.Core.List.{List, [], _∷_}
-use mathlib.Core.Path.{_∙_, _≡_, ap}
+use Rattle.values.specs.Children.{Child, places, sizes}
+use Rattle.values.specs.Held.{Held, HeldAll, Holds, Recorded, Unlinked}
+use mathlib.Core.List.{List}
+use mathlib.Core.Path.{_∙_}
 use native.Mathlib.Omega.{arith}
 
 module _ {w u : Words} {l : List ℕ} (f : Frame l w u) where

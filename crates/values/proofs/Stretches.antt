@@ -1,5 +1,5 @@
 -- Stretches of words in a table.
-use Prim.Native.Nat.{_+_, _≤_, suc, ℕ}
+use Prim.Native.Nat.{_+_, suc, ℕ}
 use Rattle.text.specs.Table.{Words}
 use lib.ListN.{getD, length}
 use mathlib.Core.List.{[], _++_, _∷_}

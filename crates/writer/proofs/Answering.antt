@@ -1,12 +1,11 @@
 -- What the writer answers, in the terms of the entries.
 use Prim.Native.Nat.{_*_, _<_, _≤_, ℕ}
-use Rattle.entries.specs.Answer.{Read, Reading, Writing, maxText, over}
+use Rattle.entries.specs.Answer.{Read, Reading, Writing, maxText}
 use Rattle.entries.specs.Entries.{Writer}
 use Rattle.meaning.proofs.Demand2.{canonical-of, six-times}
-use Rattle.meaning.proofs.Keeps.{Keeps}
 use Rattle.meaning.proofs.Reading.{text-keeps}
 use Rattle.meaning.specs.Canonical.{Canonical}
-use Rattle.meaning.specs.Meaning.{meaning, tree}
+use Rattle.meaning.specs.Meaning.{meaning}
 use Rattle.reader.specs.Answers.{ReadAs, answerOf, answered}
 use Rattle.reader.specs.declared.answer.Answer.{Answer}
 use Rattle.spell.specs.Puts.{Puts}
@@ -16,7 +15,7 @@ use Rattle.text.specs.Table.{Words}
 use Rattle.values.proofs.Holding.{text-held}
 use Rattle.writer.specs.Writes.{Writes, textOf}
 use lib.ListN.{length}
-use mathlib.Core.Path.{_∙_, _≡_, ap, refl, subst, subst⁻¹, sym}
+use mathlib.Core.Path.{_∙_, _≡_, ap, refl, subst, subst⁻¹}
 use native.Mathlib.Omega.{arith}
 
 -- A text that was read, and its canonical text.

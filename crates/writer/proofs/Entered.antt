@@ -1,11 +1,10 @@
 -- A container that was entered: its entries in order give its canonical text, and leaving it gives the table back.
 use Prim.Native.Char.{code}
-use Prim.Native.Nat.{_*_, _+_, _<_, _≤_, suc, ℕ}
-use Rattle.entries.specs.Answer.{maxText}
+use Prim.Native.Nat.{_*_, _+_, _≤_, suc, ℕ}
 use Rattle.meaning.proofs.Keeps.{Keeps, KeepsAll, KeepsPairs}
-use Rattle.meaning.proofs.Sorting.{canon, canonAll, mean-canon, sorted-canon, sorted-one}
+use Rattle.meaning.proofs.Sorting.{canon, mean-canon, sorted-canon, sorted-one}
 use Rattle.meaning.specs.Canonical.{put}
-use Rattle.meaning.specs.Meaning.{Meaning, Pairs, Tree, Trees, at, mean, pairs, tree, trees}
+use Rattle.meaning.specs.Meaning.{Meaning, Pairs, Tree, Trees, mean, pairs, tree, trees}
 use Rattle.meaning.specs.Order as meaning
 use Rattle.members.proofs.Chaining.{linked-back, linked-room}
 use Rattle.members.proofs.Framing.{frame-refl}
@@ -13,31 +12,30 @@ use Rattle.members.proofs.Lineage.{siblings-between, siblings-unique}
 use Rattle.members.specs.Chains.{Linked, chainOf, siblingsOf, walk}
 use Rattle.members.specs.Links.{Frame, Laid, linkOf}
 use Rattle.members.specs.Lists.{In}
-use Rattle.members.specs.Names.{inOrder, nameAt, nameOf}
-use Rattle.members.specs.Records.{Room, maxRecords, nextOf, word}
+use Rattle.members.specs.Names.{inOrder, nameOf}
+use Rattle.members.specs.Records.{Room, nextOf, word}
 use Rattle.members.specs.Rows.{Row}
 use Rattle.members.specs.Siblings.{Siblings}
 use Rattle.spell.specs.Scalars.{quoted}
 use Rattle.text.specs.Bytes.{Bytes, Units}
-use Rattle.text.specs.Node.{Members, Node, Nodes}
-use Rattle.text.specs.Table.{Words, size, sizeMembers, unnamed}
+use Rattle.text.specs.Node.{Members, Nodes}
+use Rattle.text.specs.Table.{Words, unnamed}
 use Rattle.values.proofs.Kin.{held-record, held-siblings, members-row, members-size, place-of, quote-inside}
 use Rattle.values.proofs.Linked.{held-stays, inside-none}
 use Rattle.values.specs.Children.{Child, elements, members, places, sizes}
 use Rattle.values.specs.Held.{Held, HeldAll, Spelt, Unlinked}
-use Rattle.writer.proofs.Gathered.{gathered-same, gathered-sorted, pairsOf, treesOf}
-use Rattle.writer.proofs.Inner.{Inner, KeepsEach, array-trees, inner, keeps-elements, keeps-members, names-distinct, object-means, treeAt}
+use Rattle.writer.proofs.Gathered.{gathered-same, gathered-sorted, pairsOf}
+use Rattle.writer.proofs.Inner.{KeepsEach, array-trees, inner, keeps-elements, keeps-members, names-distinct, object-means, treeAt}
 use Rattle.writer.proofs.Naming.{named-none, named-some}
 use Rattle.writer.proofs.Opening.{Inside, opened}
 use Rattle.writer.proofs.Spelled.{array-text, each-same, object-text}
 use Rattle.writer.specs.Containers.{container, each}
 use Rattle.writer.specs.Entering.{Cleared, Kept, Opened, opensObject}
-use Rattle.writer.specs.Walks.{Ready, Texts, entriesOf, onward}
-use Rattle.writer.specs.Writes.{Entry, Nameable, Writes, named, textOf}
+use Rattle.writer.specs.Walks.{Ready, entriesOf, onward}
+use Rattle.writer.specs.Writes.{Entry, Nameable, Writes, named}
 use borrow.Author.Tests.{eq-eqb, ne-eqb}
-use lib.Dec.{eqb}
 use lib.ListN.{length}
-use mathlib.Core.Bool.{Bool, cond, false, true}
+use mathlib.Core.Bool.{cond}
 use mathlib.Core.List.{List, [], _++_, _∷_}
 use mathlib.Core.Path.{_∙_, _≡_, ap, fun-ext, refl, subst, subst⁻¹, sym}
 use native.Mathlib.Numerals.{add-one}

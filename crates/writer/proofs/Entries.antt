@@ -1,7 +1,6 @@
 -- How a container is written: what opens it, each entry and what stands behind it.
 use Prim.Native.Char.{code}
 use Prim.Native.Nat.{_+_, _-_, _<_, _≤_, suc, zero, ℕ}
-use Rattle.entries.specs.Answer.{over}
 use Rattle.members.specs.Chains.{walk}
 use Rattle.members.specs.Lists.{In}
 use Rattle.spell.proofs.Joining.{put-as}
@@ -10,12 +9,12 @@ use Rattle.spell.specs.Puts.{Puts}
 use Rattle.text.specs.Bytes.{Bytes}
 use Rattle.text.specs.Table.{Words}
 use Rattle.writer.specs.Containers.{closed, closing, container, each}
-use Rattle.writer.specs.Walks.{Going, Ready, Texts, entriesOf, mark, onward}
+use Rattle.writer.specs.Walks.{Going, Ready, entriesOf, mark, onward}
 use Rattle.writer.specs.Writes.{Entry}
 use borrow.Author.Tests.{eq-eqb, ne-eqb}
 use lib.ListN.{drop, length, length-append, length-set, set, take}
 use mathlib.Core.Bool.{cond}
-use mathlib.Core.List.{List, [], _++_, _∷_, append-assoc, append-nil}
+use mathlib.Core.List.{[], _++_, _∷_, append-assoc, append-nil}
 use mathlib.Core.Path.{_∙_, _≡_, ap, refl, subst⁻¹, sym}
 use native.Mathlib.Omega.{arith}
 

@@ -9,15 +9,15 @@ use Rattle.members.proofs.Membership.{in-none}
 use Rattle.members.proofs.Ordering.{before-less, before-other}
 use Rattle.members.specs.Lists.{In, Same, Sorted}
 use Rattle.members.specs.Names.{before}
-use Rattle.names.proofs.Order.{order-equal, order-refl}
+use Rattle.names.proofs.Order.{order-equal}
 use Rattle.names.specs.Order.{order}
 use Rattle.text.specs.Bytes.{Units}
 use borrow.Author.Tests.{eqb-true, ltb-false}
-use lib.Dec.{eqb, ltb, ltb→lt}
+use lib.Dec.{ltb, ltb→lt}
 use mathlib.Core.Bool.{Bool, cond, false, true}
 use mathlib.Core.List.{List, [], _∷_}
 use mathlib.Core.Logic.{_⊎_, inl, inr}
-use mathlib.Core.Path.{_∙_, _≡_, ap, refl, subst, sym}
+use mathlib.Core.Path.{_∙_, _≡_, ap, refl, sym}
 use native.Mathlib.Omega.{arith}
 use Rattle.text.proofs.Tests.{is-true}
 

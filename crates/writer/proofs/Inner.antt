@@ -1,10 +1,9 @@
 -- The values inside a container by the numbers of their records.
-use Prim.Native.Nat.{_+_, _<_, _≤_, ℕ}
+use Prim.Native.Nat.{_+_, _≤_, ℕ}
 use Rattle.meaning.proofs.Keeps.{Keeps, KeepsAll, KeepsPairs}
 use Rattle.meaning.proofs.Members.{Which, at-it, at-other, some-none, which}
 use Rattle.meaning.proofs.Sorting.{canon, canonAll, mean-canon}
 use Rattle.meaning.specs.Meaning.{Maybe, Meaning, Pairs, Tree, Trees, at, mean, pairs, tree, trees}
-use Rattle.members.proofs.Membership.{in-none}
 use Rattle.members.specs.Lists.{In}
 use Rattle.members.specs.Names.{nameAt, nameOf}
 use Rattle.members.specs.Records.{word}
@@ -14,12 +13,12 @@ use Rattle.text.specs.Node.{Literal, Members, Node, Nodes}
 use Rattle.text.specs.Table.{Words, size}
 use Rattle.values.specs.Children.{Child, elements, members, places}
 use Rattle.values.specs.Held.{Held, HeldAll, Spelt}
-use Rattle.writer.proofs.Gathered.{Distinct, pairsOf, treesOf}
+use Rattle.writer.proofs.Gathered.{pairsOf, treesOf}
 use borrow.Author.Tests.{eq-eqb, ne-eqb}
 use lib.Dec.{eqb}
-use mathlib.Core.Bool.{Bool, false, true}
+use mathlib.Core.Bool.{false, true}
 use mathlib.Core.List.{List, [], _∷_}
-use mathlib.Core.Path.{_∙_, _≡_, ap, ap₂, refl, subst, sym}
+use mathlib.Core.Path.{_∙_, _≡_, ap, ap₂, refl, sym}
 use native.Mathlib.Omega.{arith}
 
 -- The sorted tree of the value of record `x`, where the first has the number `k`.

@@ -1,7 +1,7 @@
 -- What stands at a record: a value without values inside it, or a container and its entries.
 use Prim.Native.Char.{code}
 use Prim.Native.Nat.{_%_, _*_, _+_, _<_, _≤_, suc, ℕ}
-use Rattle.meaning.proofs.Keeps.{Keeps, KeepsAll, KeepsPairs}
+use Rattle.meaning.proofs.Keeps.{Keeps}
 use Rattle.meaning.proofs.Sorting.{canon}
 use Rattle.meaning.specs.Canonical.{put}
 use Rattle.meaning.specs.Meaning.{Tree, pairs, tree, trees}
@@ -11,19 +11,18 @@ use Rattle.reader.specs.Tokens.{opensContainer}
 use Rattle.spell.specs.Scalars.{Scalar}
 use Rattle.text.proofs.Offsets.{end, start}
 use Rattle.text.specs.Bytes.{Bytes}
-use Rattle.text.specs.Node.{Literal, Members, Node, Nodes}
-use Rattle.text.specs.Table.{Words, size, sizeAll, sizeMembers}
+use Rattle.text.specs.Node.{Members, Nodes}
+use Rattle.text.specs.Table.{Words, size}
 use Rattle.values.proofs.Kin.{elements-size, members-size}
-use Rattle.values.specs.Children.{Child, elements, members, sizes}
-use Rattle.values.specs.Held.{Held, HeldAll, Holds, Recorded, Spelt}
+use Rattle.values.specs.Children.{elements, members, sizes}
+use Rattle.values.specs.Held.{Held, HeldAll, Holds, Spelt}
 use Rattle.writer.proofs.Owning.{held-few, held-onward, held-room, held-start, leaf, not-scalar}
 use Rattle.writer.specs.Entering.{Opened}
-use Rattle.writer.specs.Writes.{Writes, textOf}
-use lib.Dec.{T, eqb}
+use Rattle.writer.specs.Writes.{Writes}
 use lib.ListN.{getD, length}
-use mathlib.Core.Bool.{Bool, _||_, false, false≢true, true}
-use mathlib.Core.List.{List, []}
-use mathlib.Core.Path.{_∙_, _≡_, ap, refl, subst, sym}
+use mathlib.Core.Bool.{false}
+use mathlib.Core.List.{[]}
+use mathlib.Core.Path.{_∙_, _≡_, ap, refl, sym}
 use native.Mathlib.Omega.{arith}
 
 module _ {t : Bytes} {w : Words} {r d : ℕ} {c : Bytes} where

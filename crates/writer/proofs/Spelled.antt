@@ -3,12 +3,12 @@ use Prim.Native.Char.{code}
 use Prim.Native.Nat.{ℕ}
 use Rattle.meaning.proofs.Append.{put-alone, units-append}
 use Rattle.meaning.specs.Canonical.{put, putArray, putElements, putObject, putRest, putUnits}
-use Rattle.meaning.specs.Meaning.{Pairs, Tree, Trees}
+use Rattle.meaning.specs.Meaning.{Tree}
 use Rattle.members.specs.Lists.{In}
 use Rattle.spell.specs.Scalars.{quoted}
 use Rattle.text.specs.Bytes.{Bytes, Units}
 use Rattle.writer.proofs.Gathered.{pairsOf, treesOf}
-use Rattle.writer.specs.Containers.{closed, closing, container, each}
+use Rattle.writer.specs.Containers.{closed, container, each}
 use mathlib.Core.List.{List, [], _++_, _∷_}
 use mathlib.Core.Path.{_∙_, _≡_, ap, ap₂, refl, sym}
 

@@ -9,7 +9,7 @@ use Rattle.members.specs.Lists.{In}
 use Rattle.members.specs.Records.{Room, word}
 use Rattle.reader.specs.Tokens.{brace, bracket, opensContainer}
 use Rattle.spell.proofs.Joining.{put-as}
-use Rattle.spell.proofs.Putting.{lend, lend-fits, lend-start, rest}
+use Rattle.spell.proofs.Putting.{lend, lend-fits, rest}
 use Rattle.spell.specs.Puts.{Puts}
 use Rattle.spell.specs.Scalars.{Scalar}
 use Rattle.text.proofs.Tests.{byte-at, either, is-true}
@@ -23,7 +23,7 @@ use borrow.Author.Tests.{not-false, not-true}
 use lib.Dec.{eqb}
 use lib.ListN.{drop, getD, length, length-append, take}
 use mathlib.Core.Bool.{Bool, false, not, true}
-use mathlib.Core.List.{List, [], _++_}
+use mathlib.Core.List.{[], _++_}
 use mathlib.Core.Path.{_∙_, _≡_, ap, subst, subst⁻¹, sym}
 use native.Mathlib.Omega.{arith}
 

@@ -1,6 +1,6 @@
 // The canonical text of a value of the table. Values inside values are written by recursion, at most 64
 // deep, since no text opens more containers at once.
-ghost use Prim.Native.Nat.{_+_, _<_, _≤_, ℕ};
+ghost use Prim.Native.Nat.{_+_, _<_, _≤_};
 ghost use Rattle.members.specs.Records.{Room};
 ghost use Rattle.spell.specs.Puts.{Puts};
 ghost use Rattle.text.specs.Bytes.{Bytes};

@@ -4,11 +4,6 @@ use Rattle.writer.proofs.Entered.{array-kept, array-ready, entering, en
 use borrow.Author.Needs.{needs}
 use Rattle.writer.proofs.enter.enter.Statement.{statement}
 use Rattle.writer.proofs.enter.enter.Tie as tie
-use Rattle.writer.proofs.enter.enter.Reads as reads
-use Rattle.writer.proofs.enter.enter.Lts as lts
-use Rattle.members.proofs.chain.order.Reads as order-reads
-use Rattle.members.proofs.record.next.Reads as next-reads
-use Rattle.members.proofs.siblings.count.Reads as count-reads
 
 next-requires : tie.Need-next-requires
 next-requires c κs = writes-room (c .before .before .before .pre .1 .2) .0

@@ -2,9 +2,6 @@ use Rattle.writer.proofs.Entered.{cleared-array, cleared-object}
 use borrow.Author.Needs.{needs}
 use Rattle.writer.proofs.enter.leave.Statement.{statement}
 use Rattle.writer.proofs.enter.leave.Tie as tie
-use Rattle.writer.proofs.enter.leave.Reads as reads
-use Rattle.writer.proofs.enter.leave.Lts as lts
-use Rattle.members.proofs.link.clear.Reads as clear-reads
 
 returns : tie.Need-returns
 returns c = cleared-array _ _ _ (c .if1 .taken)

@@ -2,10 +2,6 @@ use Rattle.writer.proofs.Entered.{follow-link, follow-next}
 use borrow.Author.Needs.{needs}
 use Rattle.writer.proofs.put.follow.Statement.{statement}
 use Rattle.writer.proofs.put.follow.Tie as tie
-use Rattle.writer.proofs.put.follow.Reads as reads
-use Rattle.writer.proofs.put.follow.Lts as lts
-use Rattle.members.proofs.link.link.Reads as link-reads
-use Rattle.members.proofs.record.next.Reads as next-reads
 
 link-requires : tie.Need-link-requires
 link-requires c κs = search needs

@@ -2,8 +2,6 @@ use Rattle.writer.proofs.Entries.{mark-last, mark-next}
 use borrow.Author.Needs.{needs}
 use Rattle.writer.proofs.put.mark_behind.Statement.{statement}
 use Rattle.writer.proofs.put.mark_behind.Tie as tie
-use Rattle.writer.proofs.put.mark_behind.Reads as reads
-use Rattle.writer.proofs.put.mark_behind.Lts as lts
 
 add-result : tie.Need-add-result
 add-result c = search needs

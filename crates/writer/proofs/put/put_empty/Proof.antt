@@ -2,8 +2,6 @@ use Rattle.writer.proofs.Entries.{empty-puts}
 use borrow.Author.Needs.{needs}
 use Rattle.writer.proofs.put.put_empty.Statement.{statement}
 use Rattle.writer.proofs.put.put_empty.Tie as tie
-use Rattle.writer.proofs.put.put_empty.Reads as reads
-use Rattle.writer.proofs.put.put_empty.Lts as lts
 
 slice-write-out : tie.Need-slice-write-out
 slice-write-out c = search needs

@@ -4,13 +4,6 @@ use Rattle.writer.proofs.Answering.{accepted, long, narrow, refused, wr
 use borrow.Author.Needs.{needs}
 use Rattle.writer.proofs.write.write_text.Statement.{statement}
 use Rattle.writer.proofs.write.write_text.Tie as tie
-use Rattle.writer.proofs.write.write_text.Reads as reads
-use Rattle.writer.proofs.write.write_text.Lts as lts
-use Rattle.reader.proofs.answer.refusal.Reads as refusal-reads
-use Rattle.reader.proofs.answer.success.Reads as success-reads
-use Rattle.reader.proofs.read.read_text.Reads as read-text-reads
-use Rattle.writer.proofs.measure.needed.Reads as needed-reads
-use Rattle.writer.proofs.put.put_value.Reads as put-value-reads
 
 read-text-requires : tie.Need-read-text-requires
 read-text-requires c κs = search needs
