@@ -161,3 +161,15 @@ module _ {t w tab : Words} (h : length t ≤ maxText) where
 pub reader : {t w w′ : Words} {a : Answer} → ReadAs 1 t w w′ a → Reader t w (answerOf a) w′
 reader (ReadAs.stop f r) = Reader.stop r
 reader {t} {w} {w′} (ReadAs.done v e r) = subst⁻¹ (λ a. Reader t w a w′) e (Reader.done r)
+
+-- What the number tells another entry: a text was read, or it was refused.
+number-of : {x y : Answer} → answerOf x ≡ answerOf y → x .number ≡ y .number
+number-of e = cc
+
+pub ready : {k : ℕ} {t w w′ : Words} {a : Answer} → ReadAs k t w w′ a → a .number ≡ 0 → (v : Node) × Reading k t w (entry.Read.ready v w′)
+ready (ReadAs.stop n r) e = absurd (n e)
+ready (ReadAs.done v f r) e = (v, r)
+
+pub stopped : {k : ℕ} {t w w′ : Words} {a : Answer} → ReadAs k t w w′ a → (a .number ≡ 0 → ⊥) → Reading k t w (entry.Read.stop (answerOf a) w′)
+stopped (ReadAs.stop n r) e = r
+stopped {a = a} (ReadAs.done v f r) e = absurd (e (number-of {x = a} {y = answered 0 0 0 _} f))

@@ -1,7 +1,7 @@
 -- The values of a text are held by the table that the reader leaves.
 use Prim.Native.Char.{code}
 use Prim.Native.Nat.{_*_, _+_, _<_, _≤_, suc, ℕ}
-use Rattle.entries.specs.Answer.{maxText, over}
+use Rattle.entries.specs.Answer.{Read, Reading, maxText, over}
 use Rattle.members.specs.Records.{maxRecords, word}
 use Rattle.members.specs.Names.{nameAt}
 use Rattle.names.proofs.Spelling.{spelt}
@@ -211,3 +211,6 @@ text-held {t} w {v} h l (Text.text x e) =
     let n = text-size (Text.text x e) in
     value-held t (over (table v) w) h x (At.at refl) (text-inside (Text.text x e)) unnamed 0 (has-front (table v) (drop (length (table v)) w))
     (omega arith, omega (arith, length-append (table v) (drop (length (table v)) w), length-drop (length (table v)) w, table-length v))
+
+pub reading-held : {k : ℕ} {t : Bytes} {w w′ : Words} {v : Node} → Reading k t w (Read.ready v w′) → Held t w′ 0 v
+reading-held {w = w} (Reading.accepted l m x) = text-held w l m x

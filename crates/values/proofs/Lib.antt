@@ -1,5 +1,6 @@
 pub mod Sources
 pub mod Stretches
 pub mod Holding
+pub mod Records
 pub mod Kin
 pub mod Linked

@@ -6,13 +6,14 @@ use Rattle.meaning.proofs.Demand2.{canonical-of, six-times}
 use Rattle.meaning.proofs.Reading.{text-keeps}
 use Rattle.meaning.specs.Canonical.{Canonical}
 use Rattle.meaning.specs.Meaning.{meaning}
+use Rattle.reader.proofs.Answering.{ready, stopped}
 use Rattle.reader.specs.Answers.{ReadAs, answerOf, answered}
 use Rattle.reader.specs.declared.answer.Answer.{Answer}
 use Rattle.spell.specs.Puts.{Puts}
 use Rattle.text.specs.Bytes.{Bytes}
 use Rattle.text.specs.Node.{Node}
 use Rattle.text.specs.Table.{Words}
-use Rattle.values.proofs.Holding.{text-held}
+use Rattle.values.proofs.Holding.{reading-held}
 use Rattle.writer.specs.Writes.{Writes, textOf}
 use lib.ListN.{length}
 use mathlib.Core.Path.{_∙_, _≡_, ap, refl, subst, subst⁻¹}
@@ -28,22 +29,20 @@ pub record Accepted (t : Bytes) (w w′ : Words) : Type 0 where
   pub small : length (textOf value) ≤ 6 * length t
 
 taken : {t : Bytes} {w w′ : Words} (v : Node) → Reading 1 t w (Read.ready v w′) → Accepted t w w′
-taken {t} {w} v (Reading.accepted l m x) =
-    let k = text-keeps x in
-    let c = canonical-of k in
-    record { value = v; reading = Reading.accepted l m x; canonical = c; writes = Writes.writes (text-held w l m x) k refl; short = l; small = six-times x c }
-
-number-of : {x y : Answer} → answerOf x ≡ answerOf y → x .number ≡ y .number
-number-of e = cc
+taken v r = by r r
+  where
+    by : {t : Bytes} {w w′ : Words} {v : Node} → Reading 1 t w (Read.ready v w′) → Reading 1 t w (Read.ready v w′) → Accepted t w w′
+    by {v = v} r (Reading.accepted l m x) =
+        let k = text-keeps x in
+        let c = canonical-of k in
+        record { value = v; reading = r; canonical = c; writes = Writes.writes (reading-held r) k refl; short = l; small = six-times x c }
 
 module _ {t : Bytes} {w w′ : Words} {a : Answer} where
   pub accepted : ReadAs 1 t w w′ a → a .number ≡ 0 → Accepted t w w′
-  accepted (ReadAs.stop n r) e = absurd (n e)
-  accepted (ReadAs.done v f r) e = taken v r
+  accepted r e = let (v, x) = ready r e in taken v x
 
   pub refused : (o : Bytes) → ReadAs 1 t w w′ a → (a .number ≡ 0 → ⊥) → Writer t w o (answerOf a) w′ o
-  refused o (ReadAs.stop n r) e = Writer.stop r
-  refused o (ReadAs.done v f r) e = absurd (e (number-of {x = a} {y = answered 0 0 0 _} f))
+  refused o r e = Writer.stop (stopped r e)
 
 module _ {t : Bytes} {w w′ : Words} (p : Accepted t w w′) {n : ℕ} (e : n ≡ length (textOf (p .value))) (o : Bytes) {r : Answer} where
   wrote : {o′ : Bytes} → Writing (textOf (p .value)) o (answerOf r) o′ → Writer t w o (answerOf r) w′ o′

@@ -14,9 +14,10 @@ use Rattle.text.specs.Bytes.{Bytes}
 use Rattle.text.specs.Node.{Members, Nodes}
 use Rattle.text.specs.Table.{Words, size}
 use Rattle.values.proofs.Kin.{elements-size, members-size}
+use Rattle.values.proofs.Records.{held-few, held-onward, held-room, held-start}
 use Rattle.values.specs.Children.{elements, members, sizes}
 use Rattle.values.specs.Held.{Held, HeldAll, Holds, Spelt}
-use Rattle.writer.proofs.Owning.{held-few, held-onward, held-room, held-start, leaf, not-scalar}
+use Rattle.writer.proofs.Owning.{leaf, not-scalar}
 use Rattle.writer.specs.Entering.{Opened}
 use Rattle.writer.specs.Writes.{Writes}
 use lib.ListN.{getD, length}

@@ -1,21 +1,20 @@
 -- What a value counts apart from what is inside it, read off its first byte and the number of its next record.
-use Prim.Native.Char.{code}
-use Prim.Native.Nat.{_%_, _+_, _<_, _≤_, suc, ℕ}
+use Prim.Native.Nat.{_%_, _+_, suc, ℕ}
 use Rattle.meaning.proofs.Sorting.{canon}
 use Rattle.meaning.proofs.Weight.{own}
-use Rattle.meaning.specs.Canonical.{put, spelling}
+use Rattle.meaning.specs.Canonical.{put}
 use Rattle.meaning.specs.Meaning.{Tree, pairs, tree, trees}
 use Rattle.members.specs.Links.{lowPart}
-use Rattle.members.specs.Records.{Room, maxRecords, nextOf, word}
+use Rattle.members.specs.Records.{nextOf, word}
 use Rattle.reader.specs.Tokens.{brace, bracket, opensContainer}
-use Rattle.scan.specs.Numbers.{opensNumber}
 use Rattle.spell.specs.Scalars.{Scalar}
 use Rattle.text.proofs.Offsets.{end, start}
 use Rattle.text.proofs.Records.{size-some}
 use Rattle.text.proofs.Tests.{either, is-true}
 use Rattle.text.specs.Bytes.{Bytes}
-use Rattle.text.specs.Node.{Literal, Members, Node, Nodes}
+use Rattle.text.specs.Node.{Members, Node, Nodes}
 use Rattle.text.specs.Table.{Words, size, sizeAll, sizeMembers}
+use Rattle.values.proofs.Records.{not-first}
 use Rattle.values.specs.Held.{Held, Holds}
 use lib.Dec.{eqb, eqb→eq}
 use lib.ListN.{getD, length}
@@ -24,43 +23,11 @@ use mathlib.Core.List.{[]}
 use mathlib.Core.Path.{_∙_, _≡_, ap, refl, subst, sym}
 use native.Mathlib.Omega.{arith}
 
--- The record of a value is in the table, and the value in the text.
-module _ {t : Bytes} {w : Words} {r : ℕ} {v : Node} (h : Held t w r v) where
-  pub held-room : Room w r
-  held-room = elim h [ Held.held x i y ↦ omega (arith, x .onward, x .long) ]
-
-  pub held-start : word w r 0 % lowPart < length t
-  held-start = elim h [ Held.held x i y ↦ omega (arith, x .first) ]
-
-  pub held-few : nextOf w r ≤ maxRecords
-  unfolding nextOf
-  held-few = elim h [ Held.held x i y ↦ omega (arith, x .next, x .few) ]
-
-  pub held-onward : r < nextOf w r
-  unfolding nextOf
-  held-onward = elim h [ Held.held x i y ↦ omega (arith, x .next, x .onward) ]
-
--- No scalar begins with a bracket.
-module _ (b : ℕ) (o : opensContainer b ≡ true) where
-  not-byte : (k : ℕ) → opensContainer k ≡ false → b ≡ k → ⊥
-  not-byte k f e = true≢false (sym o ∙ ap opensContainer e ∙ f)
-
-  not-number : opensNumber b ≡ true → ⊥
-  not-number n = either (eqb b bracket) (eqb b brace) (λ u. no bracket refl (eqb→eq b bracket u)) (λ u. no brace refl (eqb→eq b brace u)) (is-true o)
-    where
-      no : (k : ℕ) → opensNumber k ≡ false → b ≡ k → ⊥
-      no k f e = true≢false (sym n ∙ ap opensNumber e ∙ f)
-
-  not-literal : (l : Literal) → b ≡ getD (spelling l) 0 0 → ⊥
-  unfolding spelling
-  not-literal Literal.null = not-byte (code "n") refl
-  not-literal Literal.true = not-byte (code "t") refl
-  not-literal Literal.false = not-byte (code "f") refl
-
+-- No scalar opens a container.
 pub not-scalar : {t : Bytes} {p q : ℕ} {x : Tree} → Scalar t p q x → opensContainer (getD t p 0) ≡ true → ⊥
-not-scalar {t} {p} (Scalar.word {l = l} e) o = not-literal (getD t p 0) o l e
-not-scalar {t} {p} (Scalar.string e f) o = not-byte (getD t p 0) o (code "\"") refl e
-not-scalar {t} {p} (Scalar.number e l m n) o = not-number (getD t p 0) o e
+not-scalar {t} {p} s o =
+    let b = getD t p 0 in
+    either (eqb b bracket) (eqb b brace) (λ u. not-first s bracket refl (eqb→eq b bracket u)) (λ u. not-first s brace refl (eqb→eq b brace u)) (is-true o)
 
 -- A scalar counts all that is written for it.
 pub record Leaf (t : Bytes) (p q : ℕ) (v : Node) : Type 0 where

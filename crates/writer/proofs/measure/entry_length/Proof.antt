@@ -1,6 +1,6 @@
 use Rattle.members.specs.Records.{word}
 use Rattle.writer.proofs.Bounds.{named-most, own-most}
-use Rattle.writer.proofs.Owning.{held-room}
+use Rattle.values.proofs.Records.{held-room}
 use Rattle.writer.proofs.measure.entry_length.Statement.{statement}
 use Rattle.writer.proofs.measure.entry_length.Tie as tie
 use native.Mathlib.Omega.{arith}

@@ -1,6 +1,6 @@
 -- What is counted and what is pending make up the whole.
 use Prim.Native.Nat.{_-_}
-use Rattle.writer.proofs.Owning.{held-few, held-onward, held-room}
+use Rattle.values.proofs.Records.{held-few, held-onward, held-room}
 use Rattle.writer.proofs.Weighing.{Tally, tally-end, tally-first, tally-start, tally-turn, writes-held}
 use Rattle.writer.proofs.measure.needed.Statement.{statement}
 use Rattle.writer.proofs.measure.needed.Tie as tie

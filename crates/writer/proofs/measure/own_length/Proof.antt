@@ -1,5 +1,6 @@
 use borrow.Author.Needs.{needs}
-use Rattle.writer.proofs.Owning.{box, held-few, held-onward, held-room, held-start, leaf}
+use Rattle.values.proofs.Records.{held-few, held-onward, held-room, held-start}
+use Rattle.writer.proofs.Owning.{box, leaf}
 use Rattle.writer.proofs.measure.own_length.Statement.{statement}
 use Rattle.writer.proofs.measure.own_length.Tie as tie
 use mathlib.Core.Path.{_∙_, sym}
