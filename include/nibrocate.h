@@ -1,14 +1,15 @@
-/* Nibrocate: reads JSON texts into a lent table, and writes them canonically. Link with libnibrocate.a.
+/* Nibrocate: reads JSON texts into a lent table, writes them canonically, and looks values up by JSON pointer. Link
+ * with libnibrocate.a.
  *
  * Promises of every function here:
  * - It takes any bytes, of any length, and any length of table and output. No input is forbidden, none is undefined.
- * - It never reads or writes outside the slices it is lent, and never writes to a text.
+ * - It never reads or writes outside the slices it is lent, and never writes to a text or a JSON pointer.
  * - It allocates nothing, keeps no state between calls, always returns, and may be called from many threads at once.
  * - Its answer and the whole content of each lent slice at exit depend only on what the slices held at entry.
  *
- * What it asks of the caller: each pointer leads to as many elements as the length beside it says, a table is aligned
- * as uint32_t is, and a table or an output overlaps nothing else that is lent to the same call. A null pointer with
- * length 0 is fine.
+ * What it asks of the caller: each address leads to as many elements as the length beside it says, a table is aligned
+ * as uint32_t is, and a table or an output overlaps nothing else that is lent to the same call. A null address with
+ * length 0 is fine. A JSON pointer may be a part of the text.
  */
 #ifndef NIBROCATE_H
 #define NIBROCATE_H
@@ -20,9 +21,10 @@
 extern "C" {
 #endif
 
-/* Sizes: a longer text is refused, be it read or to be written; a table needs this many words for each byte of the
- * text; and a canonical text has at most this many bytes for each byte of the text. */
+/* Sizes: a longer text is refused, be it read or to be written, and so is a longer JSON pointer; a table needs this
+ * many words for each byte of the text; and a canonical text has at most this many bytes for each byte of the text. */
 #define NIB_TEXT_BYTES 1048576
+#define NIB_POINTER_BYTES 65536
 #define NIB_WORDS_PER_BYTE 4
 #define NIB_CANONICAL_GROWTH 6
 
@@ -32,26 +34,34 @@ extern "C" {
 /* Why a call is refused. NIB_ACCEPTED is no refusal; only the number tells, never the count. */
 enum {
   NIB_ACCEPTED = 0,
-  NIB_TEXT_TOO_LONG = 1,     /* the text has over 1,048,576 bytes; place 0 */
-  NIB_TABLE_TOO_SHORT = 2,   /* the table has fewer than 4 words for each byte of the text; place 0 */
-  NIB_UNFINISHED = 3,        /* the text ends too early, but could be continued; place is its length */
-  NIB_WRONG_BYTE = 4,        /* a byte that can't stand there, for no reason below; for 4 to 9, place is its offset */
-  NIB_TOO_DEEP = 5,          /* a bracket that would open a 65th container */
-  NIB_TOO_MANY_DIGITS = 6,   /* a number with over 18 digits before and behind the point together */
-  NIB_EXPONENT = 7,          /* over 3 exponent digits, or a normal exponent outside -999 to 999 */
-  NIB_NAME_TWICE = 8,        /* the closing quote of a name that the same object already has, escapes resolved */
-  NIB_NOT_ASCII = 9,         /* a byte of 80 (hex) or more as a character of a string */
-  NIB_OUTPUT_TOO_SHORT = 12, /* the output is shorter than what is to be written; place is the length needed */
-  NIB_RESULT_TOO_LONG = 13   /* over 1,048,576 bytes would have to be written; place is the length needed */
+  NIB_TEXT_TOO_LONG = 1,      /* the text has over 1,048,576 bytes; place 0 */
+  NIB_TABLE_TOO_SHORT = 2,    /* the table has fewer than 4 words for each byte of the text; place 0 */
+  NIB_UNFINISHED = 3,         /* the text ends too early, but could be continued; place is its length */
+  NIB_WRONG_BYTE = 4,         /* a byte that can't stand there, for no reason below; for 4 to 9, place is its offset */
+  NIB_TOO_DEEP = 5,           /* a bracket that would open a 65th container */
+  NIB_TOO_MANY_DIGITS = 6,    /* a number with over 18 digits before and behind the point together */
+  NIB_EXPONENT = 7,           /* over 3 exponent digits, or a normal exponent outside -999 to 999 */
+  NIB_NAME_TWICE = 8,         /* the closing quote of a name that the same object already has, escapes resolved */
+  NIB_NOT_ASCII = 9,          /* a byte of 80 (hex) or more as a character of a string */
+  NIB_POINTER_MALFORMED = 10, /* the JSON pointer is none, or has over 65,536 bytes; place as said at nib_find */
+  NIB_NOTHING_THERE = 11,     /* the JSON pointer names nothing in the text; place as said at nib_find */
+  NIB_OUTPUT_TOO_SHORT = 12,  /* the output is shorter than what is to be written; place is the length needed */
+  NIB_RESULT_TOO_LONG = 13    /* over 1,048,576 bytes would have to be written; place is the length needed */
 };
 
 /* The answer to a call.
- * Accepted: number, input and place are 0, and count is the number of records (nib_read) or bytes written (nib_write).
- * Refused: number says why, input is 1 (the text; for 1 to 9) or 3 (the output; for 12 and 13), place says where or how
- * many bytes are needed, and count is 0. */
+ * Accepted: number, input and place are 0, and count is the number of records (nib_read), the number of bytes written
+ * (nib_write) or the number of the record found (nib_find).
+ * Refused: number says why, input is 1 (the text; for 1 to 9), 2 (the JSON pointer; for 10 and 11) or 3 (the output;
+ * for 12 and 13), place says where or how many bytes are needed, and count is 0. */
 typedef struct {
   uint32_t number, input, place, count;
 } nib_answer;
+
+/* A part of a text: the offset of its first byte, and the offset one past its last byte. */
+typedef struct {
+  size_t start, end;
+} nib_part;
 
 /* Reads a text and fills the table with one record of four words for each value, in the order in which values start:
  *   word 0: offset of the value's first byte
@@ -87,6 +97,37 @@ nib_answer nib_read(const uint8_t *text, size_t text_len, uint32_t *table, size_
  * - refused: every byte is as at entry. */
 nib_answer nib_write(const uint8_t *text, size_t text_len, uint32_t *table, size_t table_words, uint8_t *out,
                      size_t out_len);
+
+/* Looks up the value that a JSON pointer (RFC 6901) names in a text. The count is the number of its record, whose words
+ * are table[4 x count] to table[4 x count + 3]. The whole value is record 0, so only the number tells that something
+ * was found.
+ * - The empty JSON pointer names the whole value. Any other is made of tokens, each behind a /, and each names a value
+ *   right inside the one before it. In a token ~1 stands for /, ~0 for ~, and any other byte up to 7F (hex) for itself.
+ * - In an object a token names the member whose name has the same units, escapes resolved. A name with a unit above 7F
+ *   can't be named.
+ * - In an array a token names the element of that index, which is 0 or a digit 1 to 9 and any digits. Indices count
+ *   from 0, and may be of any size. The token - names nothing there.
+ * - In any other value a token names nothing.
+ * The JSON pointer ends at pointer_len: it needs no zero byte behind it, and one inside it stands for itself.
+ *
+ * Where several refusals apply, those of nib_read go first, then 10, then 11; so a JSON pointer that is malformed
+ * anywhere is 10, whatever its first tokens name. The places are offsets in the JSON pointer:
+ * - 10: that of the first byte that can't stand, pointer_len where it ends in a ~ without its digit, or 65,536 where it
+ *   is longer, whichever is least;
+ * - 11: that of the / that opens the first token that names nothing.
+ *
+ * The table at exit is as nib_read leaves it; in 10 and 11, as in success, it holds the records of the text, and
+ * table[3] is how many there are. */
+nib_answer nib_find(const uint8_t *text, size_t text_len, uint32_t *table, size_t table_words, const uint8_t *pointer,
+                    size_t pointer_len);
+
+/* Looks up as nib_find does, and returns the part of the text that is the value found: from word 0 to word 1 of its
+ * record, without whitespace around it, and with the quotes of a string. Where nib_find refuses, for whatever reason,
+ * start and end are both 0. A value has at least one byte, so start < end tells that something was found.
+ *
+ * The table at exit is as nib_find leaves it. */
+nib_part nib_part_of(const uint8_t *text, size_t text_len, uint32_t *table, size_t table_words, const uint8_t *pointer,
+                     size_t pointer_len);
 
 #ifdef __cplusplus
 }

@@ -44,7 +44,33 @@ static int check_write(void) {
   return 0;
 }
 
+/* Looks up a value, a value that isn't there, and a malformed JSON pointer, and takes the first as a part. */
+static int check_find(void) {
+  const uint8_t *text = (const uint8_t *)"{\"foo\":[\"bar\",\"baz\"],\"\":0}";
+  const uint8_t *bar = (const uint8_t *)"/foo/0", *none = (const uint8_t *)"/foo/01", *wrong = (const uint8_t *)"/~2";
+  uint32_t table[NIB_WORDS_PER_BYTE * 26];
+
+  nib_answer found = nib_find(text, 26, table, 104, bar, 6);
+  if (found.number != NIB_ACCEPTED || found.input != 0 || found.place != 0 || found.count != 2) return 21;
+  if (table[4 * found.count] != 8 || table[4 * found.count + 1] != 13) return 22;
+
+  nib_answer nothing = nib_find(text, 26, table, 104, none, 7);
+  if (nothing.number != NIB_NOTHING_THERE || nothing.input != 2 || nothing.place != 4 || nothing.count != 0) return 23;
+  nib_answer malformed = nib_find(text, 26, table, 104, wrong, 3);
+  if (malformed.number != NIB_POINTER_MALFORMED || malformed.input != 2 || malformed.place != 2) return 24;
+
+  nib_part part = nib_part_of(text, 26, table, 104, bar, 6);
+  if (part.start != 8 || part.end != 13 || memcmp(text + part.start, "\"bar\"", 5) != 0) return 25;
+  part = nib_part_of(text, 26, table, 104, NULL, 0);
+  if (part.start != 0 || part.end != 26) return 26;
+  part = nib_part_of(text, 26, table, 104, none, 7);
+  if (part.start != 0 || part.end != 0) return 27;
+  nib_answer narrow = nib_find(text, 26, table, 103, wrong, 3);
+  return narrow.number == NIB_TABLE_TOO_SHORT && narrow.input == 1 ? 0 : 28;
+}
+
 int check_header(void) {
   int failed = check_read();
-  return failed != 0 ? failed : check_write();
+  if (failed == 0) failed = check_write();
+  return failed != 0 ? failed : check_find();
 }

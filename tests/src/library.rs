@@ -1,6 +1,7 @@
 //! The library under test, behind safe functions: a slice is lent as its pointer and its length.
 
 use crate::answer::Answer;
+use crate::part::Part;
 
 extern "C" {
     fn nib_read(text: *const u8, text_len: usize, table: *mut u32, table_words: usize) -> Answer;
@@ -12,6 +13,22 @@ extern "C" {
         out: *mut u8,
         out_len: usize,
     ) -> Answer;
+    fn nib_find(
+        text: *const u8,
+        text_len: usize,
+        table: *mut u32,
+        table_words: usize,
+        pointer: *const u8,
+        pointer_len: usize,
+    ) -> Answer;
+    fn nib_part_of(
+        text: *const u8,
+        text_len: usize,
+        table: *mut u32,
+        table_words: usize,
+        pointer: *const u8,
+        pointer_len: usize,
+    ) -> Part;
 }
 
 pub fn read(text: &[u8], table: &mut [u32]) -> Answer {
@@ -36,4 +53,32 @@ pub fn write_nothing() -> Answer {
 /// A text with an output of length 0 as a null pointer.
 pub fn write_nowhere(text: &[u8], table: &mut [u32]) -> Answer {
     unsafe { nib_write(text.as_ptr(), text.len(), table.as_mut_ptr(), table.len(), std::ptr::null_mut(), 0) }
+}
+
+pub fn find(text: &[u8], table: &mut [u32], pointer: &[u8]) -> Answer {
+    let words = table.len();
+    unsafe { nib_find(text.as_ptr(), text.len(), table.as_mut_ptr(), words, pointer.as_ptr(), pointer.len()) }
+}
+
+pub fn part(text: &[u8], table: &mut [u32], pointer: &[u8]) -> Part {
+    let words = table.len();
+    unsafe { nib_part_of(text.as_ptr(), text.len(), table.as_mut_ptr(), words, pointer.as_ptr(), pointer.len()) }
+}
+
+/// Looks up the empty pointer, which is lent at this address.
+pub fn find_whole(text: &[u8], table: &mut [u32], address: usize) -> (Answer, Part) {
+    let (words, pointer) = (table.len(), address as *const u8);
+    unsafe {
+        let answer = nib_find(text.as_ptr(), text.len(), table.as_mut_ptr(), words, pointer, 0);
+        (answer, nib_part_of(text.as_ptr(), text.len(), table.as_mut_ptr(), words, pointer, 0))
+    }
+}
+
+/// Looks up this pointer in the empty text with an empty table, both as null pointers.
+pub fn find_in_nothing(pointer: &[u8]) -> (Answer, Part) {
+    let (text, table) = (std::ptr::null(), std::ptr::null_mut());
+    unsafe {
+        let answer = nib_find(text, 0, table, 0, pointer.as_ptr(), pointer.len());
+        (answer, nib_part_of(text, 0, table, 0, pointer.as_ptr(), pointer.len()))
+    }
 }

@@ -5,11 +5,14 @@
 mod answer;
 mod damage;
 mod fence;
+mod finding;
 mod group;
 mod header;
 mod lent;
 mod library;
 mod members;
+mod part;
+mod point;
 mod random;
 mod reading;
 mod reference;
@@ -33,7 +36,7 @@ fn passes(&(name, run): &Test) -> bool {
 }
 
 fn main() -> ExitCode {
-    let tests = [&header::TESTS, &reading::tests()[..], &writing::tests()[..]].concat();
+    let tests = [&header::TESTS, &reading::tests()[..], &writing::tests()[..], &finding::tests()[..]].concat();
     let passed = tests.iter().filter(|test| passes(test)).count();
     let failed = tests.len() - passed;
     println!("{passed} passed, {failed} failed");

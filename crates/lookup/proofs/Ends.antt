@@ -1,7 +1,7 @@
 -- Where a token ends: at the first `/`, since none stands inside a token.
 use Prim.Native.Char.{code}
 use Prim.Native.Nat.{ℕ, suc, _+_, _-_, _<_, _≤_}
-use Rattle.lookup.proofs.Reading.{drop-to}
+use Rattle.names.proofs.Reading.{drop-to}
 use Rattle.lookup.specs.Tokens.{Left, TokenTo, behindTilde, tokenUnits}
 use Rattle.meaning.specs.Pointer.{Token, TokenRest, isPlainToken}
 use Rattle.text.proofs.Tests.{not-byte, true-is}

@@ -1,7 +1,7 @@
 -- Where a pointer is malformed, byte by byte: what goes in front of a token hides no fault behind it.
 use Prim.Native.Char.{code}
 use Prim.Native.Nat.{ℕ, suc, _+_, _<_, _≤_}
-use Rattle.lookup.proofs.Reading.{drop-to}
+use Rattle.names.proofs.Reading.{drop-to}
 use Rattle.lookup.specs.Reading.{endsPair}
 use Rattle.lookup.specs.Tokens.{Checked, wellFormed}
 use Rattle.meaning.proofs.Pointers.{Parsed, PointerCheck, Split, begins-whole, change, checkPointer, checkWithin, opened, parse, pointer-checked, split, splitTilde}

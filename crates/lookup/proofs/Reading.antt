@@ -3,6 +3,7 @@ use Prim.Native.Char.{code}
 use Prim.Native.Nat.{ℕ, _+_, _<_, _≤_}
 use Rattle.lookup.specs.Reading.{TokenStep, pairUnit}
 use Rattle.lookup.specs.Tokens.{behindTilde, tokenUnits}
+use Rattle.names.proofs.Reading.{drop-to}
 use Rattle.names.specs.Steps.{StepAt, endCode}
 use Rattle.names.specs.Units.{units}
 use Rattle.text.specs.Bytes.{Bytes, Units}
@@ -10,15 +11,10 @@ use Rattle.text.specs.Ceilings.{same}
 use borrow.Author.Tests.{eq-eqb, eqb-false, eqb-true, ne-eqb}
 use lib.Dec.{eqb}
 use lib.ListN.{drop, drop-of-length-le, getD, length}
-use lib.Seq.{drop-cons}
 use mathlib.Core.Bool.{Bool, cond, false, true}
 use mathlib.Core.List.{[], _∷_}
 use mathlib.Core.Path.{_∙_, _≡_, refl, sym}
-use native.Mathlib.Numerals.{add-one}
 use native.Mathlib.Omega.{arith}
-
-pub drop-to : (t : Bytes) (i j : ℕ) → j ≡ i + 1 → i < length t → drop i t ≡ getD t i 0 ∷ drop j t
-drop-to t i j e h = rw (e, add-one, drop-cons t i 0)
 
 -- The end of a token.
 pub units-end : (t : Bytes) (i : ℕ) → length t ≤ i → tokenUnits (drop i t) ≡ []

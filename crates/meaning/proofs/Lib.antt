@@ -11,6 +11,7 @@ pub mod Weight
 pub mod NumberLength
 pub mod Length
 pub mod Merging
+pub mod SideBySide
 pub mod Depth
 pub mod Nulls
 pub mod Honest

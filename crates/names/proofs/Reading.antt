@@ -27,7 +27,7 @@ module _ (t : Bytes) (i : ℕ) (h : length t ≤ i) where
   unfolding closing
   closing-end p = rw (drop-of-length-le t h)
 
-drop-to : (t : Bytes) (i j : ℕ) → j ≡ i + 1 → i < length t → drop i t ≡ getD t i 0 ∷ drop j t
+pub drop-to : (t : Bytes) (i j : ℕ) → j ≡ i + 1 → i < length t → drop i t ≡ getD t i 0 ∷ drop j t
 drop-to t i j e h = rw (e, add-one, drop-cons t i 0)
 
 drop-next : (t : Bytes) (i : ℕ) → i < length t → drop i t ≡ getD t i 0 ∷ drop (i + 1) t

@@ -1,28 +1,35 @@
 //! What 01 (docs/01-scope.md) asks of each entry, written from its words alone and meant to be believed by reading.
 //! The reader goes byte by byte, judges numbers and characters by their whole spelling so far, keeps names as sets of
 //! units, and makes the records from the finished tree. The writer goes down the grammar to what the text means, where
-//! no spelling and no order is left, and up again.
+//! no spelling and no order is left, and up again. The look-up goes down the grammar too, and then from the root by maps
+//! of names and lists of elements; it never looks at a table.
 
 mod canonical;
 mod ceilings;
 mod character;
 mod decimal;
 mod growth;
+mod lookup;
 mod machine;
 mod meaning;
 mod number;
 mod parse;
+mod pointer;
 mod records;
+mod tree;
 mod verdict;
 
 use crate::answer::Answer;
+use crate::part::Part;
 pub use decimal::Decimal;
 pub use meaning::Meaning;
-pub use parse::meaning;
+pub use parse::{meaning, tree};
+pub use tree::{Inside, Tree};
 
 const MAX_TEXT: usize = 1_048_576;
 const WORDS_PER_BYTE: usize = 4;
 const FIRST_INPUT: u32 = 1;
+const SECOND_INPUT: u32 = 2;
 const OUTPUT: u32 = 3;
 
 /// 01 "The answer and its numbers" (the order 1, 2, then 3 to 9) and "The record table" (its content at exit).
@@ -74,4 +81,21 @@ pub fn put(result: &[u8], out: &mut [u8]) -> Answer {
     }
     out[..needed].copy_from_slice(result);
     Answer::accepted(needed)
+}
+
+/// 01 "The answer and its numbers" (the text, 10, 11) and "Pointer": the answer, and the look-up as a part of the text.
+pub fn find(text: &[u8], table: &mut [u32], pointer: &[u8]) -> (Answer, Part) {
+    let reading = read(text, table);
+    match reading.number {
+        0 => look_up(&tree(text), pointer),
+        _ => (reading, Part::EMPTY),
+    }
+}
+
+/// The look-up in the tree of an accepted text.
+pub fn look_up(root: &Tree, pointer: &[u8]) -> (Answer, Part) {
+    match lookup::find(root, pointer) {
+        Ok(found) => (Answer::accepted(found.record), Part { start: found.start, end: found.end }),
+        Err(lost) => (Answer::refused(lost.number, SECOND_INPUT, lost.place), Part::EMPTY),
+    }
 }

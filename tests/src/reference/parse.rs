@@ -1,18 +1,25 @@
-//! The meaning of a text that is known to be one. It goes down the grammar, and asks for no place and no record.
+//! The tree and the meaning of a text that is known to be one. It goes down the grammar, and numbers values in order.
 
 use super::ceilings::Ceilings;
 use super::character::{self, Character};
 use super::decimal::Decimal;
 use super::meaning::Meaning;
+use super::tree::{Inside, Tree};
 use std::collections::BTreeMap;
 
 pub fn meaning(text: &[u8]) -> Meaning {
-    Rest { bytes: text }.value()
+    tree(text).meaning()
 }
 
-/// What is left of the text.
+pub fn tree(text: &[u8]) -> Tree {
+    Rest { length: text.len(), bytes: text, values: 0 }.value()
+}
+
+/// What is left of a text of this length, and how many values have started before it.
 struct Rest<'a> {
+    length: usize,
     bytes: &'a [u8],
+    values: usize,
 }
 
 impl<'a> Rest<'a> {
@@ -26,25 +33,41 @@ impl<'a> Rest<'a> {
         self.take(self.bytes.iter().take_while(|byte| belongs(byte)).count())
     }
 
-    /// Takes whitespace and then this byte, or nothing if another byte stands there.
-    fn takes(&mut self, byte: u8) -> bool {
+    fn place(&self) -> usize {
+        self.length - self.bytes.len()
+    }
+
+    fn take_whitespace(&mut self) {
         self.take_while(|byte| b" \t\n\r".contains(byte));
+    }
+
+    /// Takes whitespace and then this byte, or nothing more if another byte stands there.
+    fn takes(&mut self, byte: u8) -> bool {
+        self.take_whitespace();
         let stands = self.bytes.first() == Some(&byte);
         self.take(usize::from(stands));
         stands
     }
 
-    fn value(&mut self) -> Meaning {
+    fn value(&mut self) -> Tree {
+        self.take_whitespace();
+        let (record, start) = (self.values, self.place());
+        self.values += 1;
+        let inside = self.inside();
+        Tree { record, start, end: self.place(), inside }
+    }
+
+    fn inside(&mut self) -> Inside {
         if self.takes(b'"') {
-            return Meaning::String(self.units());
+            return Inside::Scalar(Meaning::String(self.units()));
         }
         if self.takes(b'[') {
-            return Meaning::Array(self.elements());
+            return Inside::Array(self.elements());
         }
         if self.takes(b'{') {
-            return Meaning::Object(self.members());
+            return Inside::Object(self.members());
         }
-        self.word_or_number()
+        Inside::Scalar(self.word_or_number())
     }
 
     fn word_or_number(&mut self) -> Meaning {
@@ -74,7 +97,7 @@ impl<'a> Rest<'a> {
         units
     }
 
-    fn elements(&mut self) -> Vec<Meaning> {
+    fn elements(&mut self) -> Vec<Tree> {
         let mut elements = Vec::new();
         while !self.takes(b']') {
             elements.push(self.value());
@@ -83,7 +106,7 @@ impl<'a> Rest<'a> {
         elements
     }
 
-    fn members(&mut self) -> BTreeMap<Vec<u16>, Meaning> {
+    fn members(&mut self) -> BTreeMap<Vec<u16>, Tree> {
         let mut members = BTreeMap::new();
         while !self.takes(b'}') {
             assert!(self.takes(b'"'), "a name opens with a quote");

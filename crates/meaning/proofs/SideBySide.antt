@@ -1,0 +1,136 @@
+-- The merge of two sorted trees, with the members of target and patch walked side by side in name order. What comes
+-- out is the sorted tree of the merge.
+use Prim.Native.Nat.{ℕ}
+use Rattle.meaning.proofs.Keeps.{Keeps}
+use Rattle.meaning.proofs.Members.{Which, at-it, at-other, which}
+use Rattle.meaning.proofs.Merging.{keeps-merge, members-mean, merge-means, merge-object, mergeMeaning, null-means, old, set}
+use Rattle.meaning.proofs.Sorting.{above-none, canon, mean-canon, sorted-canon, sorted-one}
+use Rattle.meaning.specs.Meaning.{Maybe, Meaning, Pairs, Tree, at, mean}
+use Rattle.meaning.specs.Merge.{isNull, membersOf, merge}
+use Rattle.meaning.specs.Order.{Above, Sorted, SortedPairs}
+use Rattle.text.specs.Bytes.{Units}
+use Rattle.text.specs.Node.{Literal}
+use mathlib.Core.Bool.{Bool, false, true, true≢false}
+use mathlib.Core.Path.{_∙_, _≡_, ap, ap₂, fun-ext, refl, sym}
+
+-- What a member that isn't there is merged as.
+abbrev pub nothing : Tree
+nothing = Tree.literal Literal.null
+
+unfoldable pub isObject : Tree → Bool
+isObject (Tree.literal w) = false
+isObject (Tree.string us) = false
+isObject (Tree.number x) = false
+isObject (Tree.array ts) = false
+isObject (Tree.object ps) = true
+
+mutual
+  -- `r` is the merge of the target `t` with the patch `p`.
+  pub data Merged : Tree → Tree → Tree → Type 0 where
+    plain : {t p : Tree} → isObject p ≡ false → Merged t p p
+    object : {t : Tree} {qs rs : Pairs} → Side (membersOf t) qs rs → Merged t (Tree.object qs) (Tree.object rs)
+
+  -- The least name of both comes first: the target's alone, the patch's alone, or of both.
+  pub data Side : Pairs → Pairs → Pairs → Type 0 where
+    end : Side Pairs.empty Pairs.empty Pairs.empty
+    keep : {k : Units} {t : Tree} {ps qs rs : Pairs} → Above k ps → Above k qs → Side ps qs rs → Side (Pairs.pair k t ps) qs (Pairs.pair k t rs)
+    skip : {k : Units} {p : Tree} {ps qs rs : Pairs} → Above k ps → Above k qs → isNull p ≡ true → Side ps qs rs → Side ps (Pairs.pair k p qs) rs
+    new : {k : Units} {p r : Tree} {ps qs rs : Pairs} → Above k ps → Above k qs → isNull p ≡ false → Merged nothing p r → Side ps qs rs → Side ps (Pairs.pair k p qs) (Pairs.pair k r rs)
+    remove : {k : Units} {t p : Tree} {ps qs rs : Pairs} → Above k ps → Above k qs → isNull p ≡ true → Side ps qs rs → Side (Pairs.pair k t ps) (Pairs.pair k p qs) rs
+    change : {k : Units} {t p r : Tree} {ps qs rs : Pairs} → Above k ps → Above k qs → isNull p ≡ false → Merged t p r → Side ps qs rs → Side (Pairs.pair k t ps) (Pairs.pair k p qs) (Pairs.pair k r rs)
+
+-- What a name that neither of the rests has means behind them: nothing.
+set-null : (o : Maybe) (p : Tree) → isNull p ≡ true → set o (Maybe.some (mean p)) ≡ Maybe.none
+unfolding set
+set-null o p e = ap (λ b. elim b as (λ _. Maybe) [ true ↦ Maybe.none | false ↦ Maybe.some (mergeMeaning (old o) (mean p)) ]) (sym (null-means p) ∙ e)
+
+set-some : (o : Maybe) (p : Tree) → isNull p ≡ false → set o (Maybe.some (mean p)) ≡ Maybe.some (mergeMeaning (old o) (mean p))
+unfolding set
+set-some o p e = ap (λ b. elim b as (λ _. Maybe) [ true ↦ Maybe.none | false ↦ Maybe.some (mergeMeaning (old o) (mean p)) ]) (sym (null-means p) ∙ e)
+
+plain-means : (m : Meaning) (p : Tree) → isObject p ≡ false → mean p ≡ mergeMeaning m (mean p)
+unfolding isObject mean mergeMeaning
+plain-means m (Tree.literal w) e = refl
+plain-means m (Tree.string us) e = refl
+plain-means m (Tree.number x) e = refl
+plain-means m (Tree.array ts) e = refl
+plain-means m (Tree.object ps) e = absurd (true≢false e)
+
+-- It means what the merge means.
+mutual
+  unfolding mean set old
+
+  pub merged-means : {t p r : Tree} → Merged t p r → mean r ≡ mergeMeaning (mean t) (mean p)
+  merged-means {t} {p} (Merged.plain e) = plain-means (mean t) p e
+  merged-means {t} (Merged.object {qs = qs} s) =
+      ap Meaning.object (fun-ext (λ k. side-means s k ∙ ap (λ o. set o (at qs k)) (members-mean t k))) ∙ sym (merge-object (mean t) (λ k. at qs k))
+
+  pub side-means : {ps qs rs : Pairs} → Side ps qs rs → (j : Units) → at rs j ≡ set (at ps j) (at qs j)
+  side-means Side.end j = refl
+  side-means (Side.keep {k} {t} {ps} {qs} {rs} a b s) j = by (which j k) (side-means s j)
+    where
+      by : Which j k → at rs j ≡ set (at ps j) (at qs j) → at (Pairs.pair k t rs) j ≡ set (at (Pairs.pair k t ps) j) (at qs j)
+      by (Which.it e) h = at-it k t rs j e ∙ sym (ap₂ set (at-it k t ps j e) (ap (at qs) e ∙ above-none b))
+      by (Which.other n) h = at-other k t rs j n ∙ h ∙ ap (λ o. set o (at qs j)) (sym (at-other k t ps j n))
+  side-means (Side.skip {k} {p} {ps} {qs} {rs} a b z s) j = by (which j k) (side-means s j)
+    where
+      by : Which j k → at rs j ≡ set (at ps j) (at qs j) → at rs j ≡ set (at ps j) (at (Pairs.pair k p qs) j)
+      by (Which.it e) h = h ∙ ap₂ set (ap (at ps) e ∙ above-none a) (ap (at qs) e ∙ above-none b) ∙ sym (ap (set (at ps j)) (at-it k p qs j e) ∙ set-null (at ps j) p z)
+      by (Which.other n) h = h ∙ ap (set (at ps j)) (sym (at-other k p qs j n))
+  side-means (Side.new {k} {p} {r} {ps} {qs} {rs} a b z m s) j = by (which j k) (side-means s j) (merged-means m)
+    where
+      by : Which j k → at rs j ≡ set (at ps j) (at qs j) → mean r ≡ mergeMeaning (mean nothing) (mean p) → at (Pairs.pair k r rs) j ≡ set (at ps j) (at (Pairs.pair k p qs) j)
+      by (Which.it e) h f =
+          at-it k r rs j e ∙ ap Maybe.some f
+          ∙ sym (ap₂ set (ap (at ps) e ∙ above-none a) (at-it k p qs j e) ∙ set-some Maybe.none p z)
+      by (Which.other n) h f = at-other k r rs j n ∙ h ∙ ap (set (at ps j)) (sym (at-other k p qs j n))
+  side-means (Side.remove {k} {t} {p} {ps} {qs} {rs} a b z s) j = by (which j k) (side-means s j)
+    where
+      by : Which j k → at rs j ≡ set (at ps j) (at qs j) → at rs j ≡ set (at (Pairs.pair k t ps) j) (at (Pairs.pair k p qs) j)
+      by (Which.it e) h =
+          h ∙ ap₂ set (ap (at ps) e ∙ above-none a) (ap (at qs) e ∙ above-none b)
+          ∙ sym (ap (set (at (Pairs.pair k t ps) j)) (at-it k p qs j e) ∙ set-null (at (Pairs.pair k t ps) j) p z)
+      by (Which.other n) h = h ∙ ap₂ set (sym (at-other k t ps j n)) (sym (at-other k p qs j n))
+  side-means (Side.change {k} {t} {p} {r} {ps} {qs} {rs} a b z m s) j = by (which j k) (side-means s j) (merged-means m)
+    where
+      by : Which j k → at rs j ≡ set (at ps j) (at qs j) → mean r ≡ mergeMeaning (mean t) (mean p) → at (Pairs.pair k r rs) j ≡ set (at (Pairs.pair k t ps) j) (at (Pairs.pair k p qs) j)
+      by (Which.it e) h f =
+          at-it k r rs j e ∙ ap Maybe.some f ∙ sym (ap₂ set (at-it k t ps j e) (at-it k p qs j e) ∙ set-some (Maybe.some (mean t)) p z)
+      by (Which.other n) h f = at-other k r rs j n ∙ h ∙ ap₂ set (sym (at-other k t ps j n)) (sym (at-other k p qs j n))
+
+-- It is sorted where both are.
+side-above : {k : Units} {ps qs rs : Pairs} → Above k ps → Above k qs → Side ps qs rs → Above k rs
+side-above a b Side.end = Above.none
+side-above (Above.next x a) b (Side.keep _ _ s) = Above.next x (side-above a b s)
+side-above a (Above.next x b) (Side.skip _ _ z s) = side-above a b s
+side-above a (Above.next x b) (Side.new _ _ z m s) = Above.next x (side-above a b s)
+side-above (Above.next x a) (Above.next y b) (Side.remove _ _ z s) = side-above a b s
+side-above (Above.next x a) (Above.next y b) (Side.change _ _ z m s) = Above.next x (side-above a b s)
+
+members-sorted : {t : Tree} → Sorted t → SortedPairs (membersOf t)
+unfolding membersOf
+members-sorted Sorted.literal = SortedPairs.empty
+members-sorted Sorted.string = SortedPairs.empty
+members-sorted Sorted.number = SortedPairs.empty
+members-sorted (Sorted.array x) = SortedPairs.empty
+members-sorted (Sorted.object x) = x
+
+mutual
+  pub merged-sorted : {t p r : Tree} → Merged t p r → Sorted t → Sorted p → Sorted r
+  merged-sorted (Merged.plain e) x y = y
+  merged-sorted (Merged.object s) x (Sorted.object y) = Sorted.object (side-sorted s (members-sorted x) y)
+
+  side-sorted : {ps qs rs : Pairs} → Side ps qs rs → SortedPairs ps → SortedPairs qs → SortedPairs rs
+  side-sorted Side.end x y = SortedPairs.empty
+  side-sorted (Side.keep a b s) (SortedPairs.pair c t x) y = SortedPairs.pair (side-above a b s) t (side-sorted s x y)
+  side-sorted (Side.skip a b z s) x (SortedPairs.pair c p y) = side-sorted s x y
+  side-sorted (Side.new a b z m s) x (SortedPairs.pair c p y) = SortedPairs.pair (side-above a b s) (merged-sorted m Sorted.literal p) (side-sorted s x y)
+  side-sorted (Side.remove a b z s) (SortedPairs.pair c t x) (SortedPairs.pair d p y) = side-sorted s x y
+  side-sorted (Side.change a b z m s) (SortedPairs.pair c t x) (SortedPairs.pair d p y) = SortedPairs.pair (side-above a b s) (merged-sorted m t p) (side-sorted s x y)
+
+-- So it is the sorted tree of the merge.
+pub side-by-side : {d : ℕ} {t p r : Tree} → Keeps d t → Keeps d p → Merged (canon t) (canon p) r → r ≡ canon (merge t p)
+side-by-side {t = t} {p} {r} k l m =
+    let n = keeps-merge l k in
+    sorted-one (merged-sorted m (sorted-canon k) (sorted-canon l)) (sorted-canon n)
+    (merged-means m ∙ ap₂ mergeMeaning (mean-canon k) (mean-canon l) ∙ sym (merge-means t l) ∙ sym (mean-canon n))
