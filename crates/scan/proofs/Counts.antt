@@ -1,8 +1,8 @@
 -- Runs of digits, of a coefficient and of an exponent.
 use Prim.Native.Nat.{_*_, _+_, _-_, _<_, _^_, _≤_, ℕ}
-use Rattle.scan.proofs.Numerals.{digit-bounds, fraction-digit, fraction-many, onto-settled, onto-spoilt, power-digit, power-many, settle-power, whole-digit, whole-many}
+use Rattle.scan.proofs.Numerals.{digit-bounds, fraction-digit, fraction-many, onto-settled, onto-spoilt, power-digit, power-many, settle-power, spoilt-count, whole-digit, whole-many}
 use Rattle.scan.specs.Answers.{at}
-use Rattle.scan.specs.Numerals.{Counted, Onto, PartAt, Sound, Spoilt, behindPower, passes, writtenOf}
+use Rattle.scan.specs.Numerals.{Counted, DigitsAt, Onto, PartAt, Sound, Spoilt, behindPower, passes, writtenOf}
 use Rattle.scan.specs.declared.exponent.Mantissa.{Mantissa}
 use Rattle.scan.specs.declared.number.Number.{Number}
 use Rattle.text.proofs.Digits.{andDigit}
@@ -40,9 +40,12 @@ module _ (t : Bytes) (i c n j d m : ℕ) (q : Counted t i c n j d m) (h : j < le
         fraction = λ neg f u st. q .fraction neg f u st ∙ fraction-digit t j h p neg d m (f + (m - n)) l u st ∙ ap (λ x. at t (State.number (Numeral.fraction neg (andDigit d (getD t j 0)) (m + 1) x) u st) (j + 1)) (omega (arith, q .more));
       }
 
-  pub counted-many : maxDigits ≤ m → ((neg : Bool) → Spoilt t (Numeral.whole neg c n) i 6 j) × ((neg : Bool) (f : ℕ) → Spoilt t (Numeral.fraction neg c n f) i 6 j)
-  counted-many l =
-      ((λ neg. onto-spoilt (q .whole neg) (whole-many t j h p neg d m l)), λ neg f. onto-spoilt (q .fraction neg f) (fraction-many t j h p neg d m (f + (m - n)) l))
+  pub counted-many : (a b k : ℕ) → maxDigits ≤ m → a ≡ j → k ≡ maxDigits + 6 → DigitsAt t i c n a b k
+  counted-many a b k l e f =
+      record {
+        few = λ g. absurd (omega arith);
+        many = λ g. ((λ neg. spoilt-count e f (onto-spoilt (q .whole neg) (whole-many t j h p neg d m l))), λ neg u. spoilt-count e f (onto-spoilt (q .fraction neg u) (fraction-many t j h p neg d m (u + (m - n)) l)));
+      }
 
 -- The exponent's digits: `k` of them, the first of which is `e₀`, come to `e`.
 pub record Powered (t : Bytes) (m : Mantissa) (down : Bool) (from e₀ i e k : ℕ) : Type 0 where

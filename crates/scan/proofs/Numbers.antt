@@ -1,11 +1,11 @@
 -- The number leaf's answers, part by part.
 use Prim.Native.Char.{code}
 use Prim.Native.Nat.{_*_, _+_, _-_, _<_, _^_, _≤_, ℕ}
-use Rattle.scan.proofs.Numerals.{digit-settles, first-nonzero, first-zero, fraction-mark, mark-digit, mark-minus, mark-plus, minus-first, minus-short, minus-wrong, no-point, onto-settled, onto-spoilt, point-digit, point-many, settle-fraction, sign-digit, value-first, value-minus, whole-point, zero-whole}
+use Rattle.scan.proofs.Numerals.{digit-settles, first-nonzero, first-zero, fraction-mark, mark-minus, mark-plus, minus-first, minus-short, minus-wrong, no-point, no-sign, onto-settled, onto-spoilt, point-digit, point-many, settle-fraction, sign-digit, spoilt-count, value-first, value-minus, whole-point, zero-whole}
 use Rattle.scan.proofs.Steps.{differs, fails, holds, stands}
 use Rattle.scan.specs.Answers.{at}
 use Rattle.scan.specs.Numbers.{NumberAt, Unnumbered, opensNumber}
-use Rattle.scan.specs.Numerals.{BehindMinus, DigitsAt, Onto, PartAt, Settled, Sound, Spoilt, WholeAt, behindFraction, behindMark, behindPower, behindSign, first, writtenOf}
+use Rattle.scan.specs.Numerals.{BehindMinus, BehindSign, DigitsAt, FractionAt, Onto, PartAt, Settled, Sound, Spoilt, WholeAt, behindFraction, behindMark, behindPower, behindSign, first, writtenOf}
 use Rattle.scan.specs.declared.exponent.Mantissa.{Mantissa}
 use Rattle.scan.specs.declared.number.Number.{Number}
 use Rattle.text.proofs.Digits.{andDigit}
@@ -24,25 +24,28 @@ pub onto-part : (t : Bytes) (s s′ : Numeral) (i j : ℕ) (r : Number) → i �
 onto-part t s s′ i j (Number.Decimal w) h x y = onto-settled h x y
 onto-part t s s′ i j (Number.Refused k q) h x y = onto-spoilt x y
 
-module _ (t : Bytes) (i : ℕ) (r : Number) where
-  module _ (w : ℕ) (h : i < length t) (d : T (isDigit (getD t i 0))) (e : w ≡ getD t i 0 - 48) where
-    g : andDigit 0 (getD t i 0) ≡ w
-    g = omega arith
+-- An exponent's first digit, and the sign before it.
+pub sign-rest : (t : Bytes) (i : ℕ) (r : Number) (w : ℕ) → i < length t → T (isDigit (getD t i 0)) → w ≡ getD t i 0 - 48 → (m : Mantissa) (down : Bool) → PartAt t (behindPower m down w 1) (i + 1) r → PartAt t (behindSign m down) i r
+sign-rest t i r w h d e m down =
+    let g : andDigit 0 (getD t i 0) ≡ w = omega arith in
+    onto-part t _ _ i (i + 1) r (omega arith) (subst (λ x. Onto t (behindSign m down) i (behindPower m down x 1) (i + 1)) g (sign-digit t i h d m down))
 
-    pub sign-rest : (m : Mantissa) (down : Bool) → PartAt t (behindPower m down w 1) (i + 1) r → PartAt t (behindSign m down) i r
-    sign-rest m down = onto-part t _ _ i (i + 1) r (omega arith) (subst (λ x. Onto t (behindSign m down) i (behindPower m down x 1) (i + 1)) g (sign-digit t i h d m down))
+module _ (t : Bytes) (i b : ℕ) (e : b ≡ getD t i 0) where
+  sign-in : (b ≡ 0 → ⊥) → i < length t
+  sign-in f = stands t i (λ g. f (e ∙ g))
 
-    pub mark-rest : (m : Mantissa) → PartAt t (behindPower m false w 1) (i + 1) r → PartAt t (behindMark m) i r
-    mark-rest m = onto-part t _ _ i (i + 1) r (omega arith) (subst (λ x. Onto t (behindMark m) i (behindPower m false x 1) (i + 1)) g (mark-digit t i h d m))
+  pub sign-bound : {j : ℕ} → i ≤ length t → BehindSign b i j → (i ≤ j) × (j ≤ length t)
+  sign-bound h (BehindSign.plus f g) = let l = sign-in (λ z. absurd (omega arith)) in (omega arith, omega arith)
+  sign-bound h (BehindSign.minus f g) = let l = sign-in (λ z. absurd (omega arith)) in (omega arith, omega arith)
+  sign-bound h (BehindSign.none f f′ g) = (omega arith, omega arith)
 
-  pub plus-rest : (m : Mantissa) → i < length t → getD t i 0 ≡ code "+" → PartAt t (behindSign m false) (i + 1) r → PartAt t (behindMark m) i r
-  plus-rest m h e = onto-part t _ _ i (i + 1) r (omega arith) (mark-plus t i h m e)
+  to-sign : (m : Mantissa) {j : ℕ} → BehindSign b i j → Onto t (behindMark m) i (behindSign m (eqb b (code "-"))) j
+  to-sign m (BehindSign.plus f g) = rw (f, g) (mark-plus t i (sign-in (λ z. absurd (omega arith))) m (sym e ∙ f))
+  to-sign m (BehindSign.minus f g) = rw (f, g) (mark-minus t i (sign-in (λ z. absurd (omega arith))) m (sym e ∙ f))
+  to-sign m (BehindSign.none f f′ g) = rw (ne-eqb b (code "-") f′, g) (no-sign t i m (differs _ _ (λ h. f (e ∙ h))) (differs _ _ (λ h. f′ (e ∙ h))))
 
-  pub minus-rest : (m : Mantissa) → i < length t → getD t i 0 ≡ code "-" → PartAt t (behindSign m true) (i + 1) r → PartAt t (behindMark m) i r
-  minus-rest m h e = onto-part t _ _ i (i + 1) r (omega arith) (mark-minus t i h m e)
-
-  pub point-none : (neg : Bool) (c n b : ℕ) → T (not (isDigit (getD t i 0))) → b ≡ getD t i 0 → (b ≡ code "." → ⊥) → PartAt t (Numeral.fraction neg c n 0) i r → PartAt t (Numeral.whole neg c n) i r
-  point-none neg c n b d e f = onto-part t _ _ i i r (omega arith) (no-point t i neg c n d (differs _ _ (λ g. f (e ∙ g))))
+  pub mark-rest : (m : Mantissa) (r : Number) {j : ℕ} → i ≤ length t → BehindSign b i j → PartAt t (behindSign m (eqb b (code "-"))) j r → PartAt t (behindMark m) i r
+  mark-rest m r {j} h x = onto-part t _ _ i j r (sign-bound h x .0) (to-sign m x)
 
 -- An exponent or the end of the number.
 module _ (t : Bytes) (i b : ℕ) (x : Bool) (e : b ≡ getD t i 0) (f : x ≡ isE b) where
@@ -59,30 +62,53 @@ module _ (t : Bytes) (i b : ℕ) (x : Bool) (e : b ≡ getD t i 0) (f : x ≡ is
     pub tail-end : Sound m → i ≤ length t → x ≡ false → (r : Number) → r ≡ Number.Decimal (writtenOf m false 0 i) → PartAt t (behindFraction m) i r
     tail-end z h g r y = subst⁻¹ (PartAt t (behindFraction m) i) y (settle-fraction t m z i h d (subst (λ b. T (not (isE b))) e (fails x (isE b) f g)))
 
--- A point, and the digits behind it.
-module _ (t : Bytes) (i : ℕ) (neg : Bool) (c n b : ℕ) (e : b ≡ getD t i 0) (f : b ≡ code ".") where
-  pub point-in : i < length t
-  point-in = stands t i (λ g. absurd (omega arith))
+-- The digits behind the point.
+pub fraction-refused : {t : Bytes} {s : Bool → Numeral} {n i j d m k q : ℕ} → j ≡ q → m ≡ maxDigits + k → ((neg : Bool) → Spoilt t (s neg) i k q) → FractionAt t s n i j d m
+fraction-refused e f x = record { few = λ h. absurd (x true .some (omega arith)); many = λ h neg. spoilt-count e f (x neg) }
 
-  pub point-full : n ≡ maxDigits → Spoilt t (Numeral.whole neg c n) i 6 i
-  point-full l = point-many t i point-in neg c n (sym e ∙ f) (omega arith)
+fraction-onto : {t : Bytes} {s s′ : Bool → Numeral} {n i i′ j d m : ℕ} → i ≤ i′ → ((neg : Bool) → Onto t (s neg) i (s′ neg) i′) → FractionAt t s′ n i′ j d m → FractionAt t s n i j d m
+fraction-onto l x a =
+    record {
+      few = λ h. let u = a .few h in record { onward = omega (arith, u .onward); bound = u .bound; more = u .more; small = u .small; last = u .last; same = λ neg p st. x neg p st ∙ u .same neg p st };
+      many = λ h neg. onto-spoilt (x neg) (a .many h neg);
+    }
 
-  pub point-rest : (r : Number) → n < maxDigits → PartAt t (Numeral.point neg c n) (i + 1) r → PartAt t (Numeral.whole neg c n) i r
-  point-rest r l = onto-part t _ _ i (i + 1) r (omega arith) (whole-point t i point-in neg c n (sym e ∙ f) l)
+module _ (t : Bytes) (i c n : ℕ) (h : i < length t) (d : T (isDigit (getD t i 0))) (w : ℕ) (y : w ≡ getD t i 0 - 48) where
+  to-fraction : (neg : Bool) → Onto t (Numeral.point neg c n) i (Numeral.fraction neg (10 * c + w) (n + 1) 1) (i + 1)
+  to-fraction neg p st = rw y (point-digit t i h d neg c n p st)
 
-module _ (t : Bytes) (i : ℕ) (neg : Bool) (c n : ℕ) (h : i < length t) (d : T (isDigit (getD t i 0))) (w : ℕ) (y : w ≡ getD t i 0 - 48) where
-  to-fraction : Onto t (Numeral.point neg c n) i (Numeral.fraction neg (10 * c + w) (n + 1) 1) (i + 1)
-  to-fraction p st = rw y (point-digit t i h d neg c n p st)
+  run-fraction : (q k m : ℕ) → DigitsAt t (i + 1) (10 * c + w) (n + 1) q k m → FractionAt t (λ neg. Numeral.fraction neg (10 * c + w) (n + 1) 1) n (i + 1) q k m
+  run-fraction q k m a =
+      record {
+        few = λ g.
+            let u = a .few g .0 in
+            let z : m - n ≡ 1 + (m - (n + 1)) = omega (arith, u .more) in
+            record { onward = u .onward; bound = u .bound; more = omega (arith, u .more); small = u .small; last = a .few g .1; same = λ neg. rw z (u .fraction neg 1) };
+        many = λ g neg. a .many g .1 neg 1;
+      }
 
-  module _ (q k m : ℕ) (a : DigitsAt t (i + 1) (10 * c + w) (n + 1) q k m) where
-    pub fraction-over : maxDigits < m → Spoilt t (Numeral.point neg c n) i 6 q
-    fraction-over g = onto-spoilt to-fraction (a .many g .1 neg 1)
+  pub decimals : (q k m : ℕ) → DigitsAt t (i + 1) (10 * c + w) (n + 1) q k m → FractionAt t (λ neg. Numeral.point neg c n) n i q k m
+  decimals q k m a = fraction-onto (omega arith) to-fraction (run-fraction q k m a)
 
-    pub fraction-rest : (r : Number) → m ≤ maxDigits → PartAt t (Numeral.fraction neg k m (m - n)) q r → PartAt t (Numeral.point neg c n) i r
-    fraction-rest r g x =
-        let u = a .few g .0 in
-        let z : m - n ≡ 1 + (m - (n + 1)) = omega (arith, u .more) in
-        onto-part t _ _ i (i + 1) r (omega arith) to-fraction (onto-part t _ _ (i + 1) q r (u .onward) (u .fraction neg 1) (subst (λ f. PartAt t (Numeral.fraction neg k m f) q r) z x))
+-- A point, or none.
+module _ (t : Bytes) (i c n b : ℕ) (e : b ≡ getD t i 0) where
+  pub point-none : i ≤ length t → n ≤ maxDigits → c < 10 ^ n → T (not (isDigit (getD t i 0))) → (b ≡ code "." → ⊥) → FractionAt t (λ neg. Numeral.whole neg c n) n i i c n
+  point-none h l k d f =
+      let z : n - n ≡ 0 = omega arith in
+      record {
+        few = λ g. record { onward = omega arith; bound = h; more = omega arith; small = k; last = d; same = λ neg. rw z (no-point t i neg c n d (differs _ _ (λ g. f (e ∙ g)))) };
+        many = λ g. absurd (omega arith);
+      }
+
+  module _ (f : b ≡ code ".") where
+    pub point-in : i < length t
+    point-in = stands t i (λ g. absurd (omega arith))
+
+    pub point-full : n ≡ maxDigits → (neg : Bool) → Spoilt t (Numeral.whole neg c n) i 6 i
+    point-full l neg = point-many t i point-in neg c n (sym e ∙ f) (omega arith)
+
+    pub point-rest : (q k m : ℕ) → n < maxDigits → FractionAt t (λ neg. Numeral.point neg c n) n (i + 1) q k m → FractionAt t (λ neg. Numeral.whole neg c n) n i q k m
+    point-rest q k m l = fraction-onto (omega arith) (λ neg. whole-point t i point-in neg c n (sym e ∙ f) l)
 
 -- What a test of the byte at `i` says.
 module _ (t : Bytes) (i b : ℕ) (x : Bool) (e : b ≡ getD t i 0) (f : x ≡ isDigit b) where
@@ -105,7 +131,7 @@ module _ (t : Bytes) (i : ℕ) (neg : Bool) (b : ℕ) where
     to-whole : Onto t (first neg b) i (Numeral.whole neg w 1) i
     to-whole p st = let g : andDigit 0 b ≡ w = omega arith in subst (λ w. at t (State.number (first neg b) p st) i ≡ at t (State.number (Numeral.whole neg w 1) p st) i) g (ap (λ s. at t (State.number s p st) i) (first-nonzero b neg f))
 
-    first-over : maxDigits < m → Spoilt t (first neg b) i 6 q
+    first-over : maxDigits < m → Spoilt t (first neg b) i (m - maxDigits) q
     first-over g = onto-spoilt to-whole (a .many g .0 neg)
 
     first-rest : (r : Number) → m ≤ maxDigits → PartAt t (Numeral.whole neg k m) q r → PartAt t (first neg b) i r
@@ -116,7 +142,7 @@ pub whole-run : {t : Bytes} {i b w j d m : ℕ} → (b ≡ code "0" → ⊥) →
 whole-run {t} {i} {j = j} {d} {m} f e x = WholeAt.run f (subst (λ w. DigitsAt t i w 1 j d m) e x)
 
 module _ (t : Bytes) (i b : ℕ) (h : i ≤ length t) where
-  pub whole-over : (neg : Bool) (j d m : ℕ) → WholeAt t i b j d m → maxDigits < m → Spoilt t (first neg b) i 6 j
+  pub whole-over : (neg : Bool) (j d m : ℕ) → WholeAt t i b j d m → maxDigits < m → Spoilt t (first neg b) i (m - maxDigits) j
   whole-over neg j d m (WholeAt.zero e f g k) l = absurd (omega arith)
   whole-over neg j d m (WholeAt.run e x) l = first-over t i neg b e (b - code "0") refl j d m x l
 

@@ -29,6 +29,10 @@ onto-settled h x y = record { onward = omega (arith, y .onward); bound = y .boun
 pub onto-spoilt : {t : Bytes} {s s′ : Numeral} {i j k q : ℕ} → Onto t s i s′ j → Spoilt t s′ j k q → Spoilt t s i k q
 onto-spoilt x y = record { some = y .some; same = λ p st. x p st ∙ y .same p st }
 
+-- A refusal that a count of digits stands for.
+pub spoilt-count : {t : Bytes} {s : Numeral} {i k q j m : ℕ} → j ≡ q → m ≡ maxDigits + k → Spoilt t s i k q → Spoilt t s i (m - maxDigits) j
+spoilt-count {t} {s} {i} {k} {q} {j} {m} e f x = let g : m - maxDigits ≡ k = omega arith in rw (e, g) x
+
 -- The gate of digits.
 digits-open : (n : ℕ) → n ≤ maxDigits → T (shut (Gate.digits n))
 unfolding judging house
@@ -96,6 +100,15 @@ module _ (t : Bytes) (i : ℕ) (neg : Bool) where
       by [] (Within.behind h) = finish t (State.number (Numeral.whole neg c n) p []) i h Done.whole ∙ sym (finish t (State.number (Numeral.fraction neg c n 0) p []) i h Done.fraction)
       by (r ∷ st) (Within.behind h) = short t (State.number (Numeral.whole neg c n) p (r ∷ st)) i h tt ∙ sym (short t (State.number (Numeral.fraction neg c n 0) p (r ∷ st)) i h tt)
 
+-- Where no sign stands, an exponent goes up.
+pub no-sign : (t : Bytes) (i : ℕ) (m : Mantissa) → T (not (eqb (getD t i 0) (code "+"))) → T (not (eqb (getD t i 0) (code "-"))) → Onto t (behindMark m) i (behindSign m false) i
+unfolding move numberMove isDone
+no-sign t i m q r p st = by (within t i)
+  where
+    by : Within t i → at t (State.number (behindMark m) p st) i ≡ at t (State.number (behindSign m false) p st) i
+    by (Within.inside h) = alike t (State.number (behindMark m) p st) (State.number (behindSign m false) p st) i h (Like.under (Like.left q (Like.left r Like.like)))
+    by (Within.behind h) = short t (State.number (behindMark m) p st) i h tt ∙ sym (short t (State.number (behindSign m false) p st) i h tt)
+
 -- The state behind the first digit.
 pub first-zero : (b : ℕ) (neg : Bool) → b ≡ code "0" → first neg b ≡ Numeral.zero neg
 unfolding first
@@ -151,10 +164,6 @@ module _ (t : Bytes) (i : ℕ) (h : i < length t) where
     pub point-digit : (neg : Bool) (c n : ℕ) → Onto t (Numeral.point neg c n) i (Numeral.fraction neg (andDigit c here) (n + 1) 1) (i + 1)
     unfolding move numberMove
     point-digit neg c n p st = step t (State.number (Numeral.point neg c n) p st) i h (Took.yes d (rw (add-one n) Took.go))
-
-    pub mark-digit : (m : Mantissa) → Onto t (behindMark m) i (behindPower m false (andDigit 0 here) 1) (i + 1)
-    unfolding move numberMove
-    mark-digit m p st = step t (State.number (behindMark m) p st) i h (Took.yes d Took.go)
 
     pub sign-digit : (m : Mantissa) (down : Bool) → Onto t (behindSign m down) i (behindPower m down (andDigit 0 here) 1) (i + 1)
     unfolding move numberMove
@@ -235,10 +244,6 @@ module _ (t : Bytes) (i : ℕ) (h : i < length t) where
     unfolding move numberMove
     sign-wrong m down = record { some = λ e. absurd (omega arith); same = λ p st. fail t (State.number (behindSign m down) p st) i h (Fault.no d Fault.bad) }
 
-    pub mark-wrong : (m : Mantissa) → (here ≡ code "+" → ⊥) → (here ≡ code "-" → ⊥) → Spoilt t (behindMark m) i 4 i
-    unfolding move numberMove
-    mark-wrong m q r = record { some = λ e. absurd (omega arith); same = λ p st. fail t (State.number (behindMark m) p st) i h (Fault.no d (Fault.no (differs _ _ q) (Fault.no (differs _ _ r) Fault.bad))) }
-
     not-nonzero : T (not (isNonzero here))
     not-nonzero = not-T (isNonzero here) λ q.
         let lo : 49 ≤ here = leb→le 49 here (and-left (leb 49 here) (leb here 57) q) in
@@ -264,10 +269,6 @@ module _ (t : Bytes) (i : ℕ) (h : length t ≤ i) where
   pub point-short : (neg : Bool) (c n : ℕ) → Spoilt t (Numeral.point neg c n) i 3 i
   unfolding isDone
   point-short neg c n = cut (Numeral.point neg c n) (λ p st. tt)
-
-  pub mark-short : (m : Mantissa) → Spoilt t (behindMark m) i 3 i
-  unfolding isDone
-  mark-short m = cut (behindMark m) (λ p st. tt)
 
   pub sign-short : (m : Mantissa) (down : Bool) → Spoilt t (behindSign m down) i 3 i
   unfolding isDone

@@ -38,6 +38,12 @@ pub data BehindMinus (b i j : ℕ) : Type 0 where
   minus : b ≡ code "-" → j ≡ i + 1 → BehindMinus b i j
   none : (b ≡ code "-" → ⊥) → j ≡ i → BehindMinus b i j
 
+-- `j` is the offset behind an exponent's sign, if the byte `b` at `i` is one.
+pub data BehindSign (b i j : ℕ) : Type 0 where
+  plus : b ≡ code "+" → j ≡ i + 1 → BehindSign b i j
+  minus : b ≡ code "-" → j ≡ i + 1 → BehindSign b i j
+  none : (b ≡ code "+" → ⊥) → (b ≡ code "-" → ⊥) → j ≡ i → BehindSign b i j
+
 -- The digits before an exponent are within their ceiling.
 abbrev pub Sound : Mantissa → Type 0
 Sound m = (m .digits ≤ maxDigits) × (m .fraction ≤ m .digits) × (m .coefficient < 10 ^ m .digits)
@@ -79,13 +85,27 @@ pub record Counted (t : Bytes) (i c n j d m : ℕ) : Type 0 where
   pub whole : (neg : Bool) → Onto t (Numeral.whole neg c n) i (Numeral.whole neg d m) j
   pub fraction : (neg : Bool) (f : ℕ) → Onto t (Numeral.fraction neg c n f) i (Numeral.fraction neg d m (f + (m - n))) j
 
--- The whole run, with no digit behind it, or a digit at `j` that is one too many.
+-- The whole run, with no digit behind it, or the refusal at `j` that a count above the ceiling stands for.
 pub record DigitsAt (t : Bytes) (i c n j d m : ℕ) : Type 0 where
   pub few : m ≤ maxDigits → Counted t i c n j d m × T (not (isDigit (getD t j 0)))
   pub many : maxDigits < m
-      → ((neg : Bool) → Spoilt t (Numeral.whole neg c n) i 6 j) × ((neg : Bool) (f : ℕ) → Spoilt t (Numeral.fraction neg c n f) i 6 j)
+      → ((neg : Bool) → Spoilt t (Numeral.whole neg c n) i (m - maxDigits) j) × ((neg : Bool) (f : ℕ) → Spoilt t (Numeral.fraction neg c n f) i (m - maxDigits) j)
 
 -- The digits before the point, behind the first, which is `b`: none behind a 0, else the whole run.
 pub data WholeAt (t : Bytes) (i b j d m : ℕ) : Type 0 where
   zero : b ≡ code "0" → j ≡ i → d ≡ 0 → m ≡ 1 → WholeAt t i b j d m
   run : (b ≡ code "0" → ⊥) → DigitsAt t i (b - code "0") 1 j d m → WholeAt t i b j d m
+
+-- From `s` at `i`, behind `n` digits before the point, on to the last digit behind it, before `j`: all `m` come to `d`.
+pub record Fraction (t : Bytes) (s : Bool → Numeral) (n i j d m : ℕ) : Type 0 where
+  pub onward : i ≤ j
+  pub bound : j ≤ length t
+  pub more : n ≤ m
+  pub small : d < 10 ^ m
+  pub last : T (not (isDigit (getD t j 0)))
+  pub same : (neg : Bool) → Onto t (s neg) i (Numeral.fraction neg d m (m - n)) j
+
+-- The same, or the refusal at `j` that a count above the ceiling stands for.
+pub record FractionAt (t : Bytes) (s : Bool → Numeral) (n i j d m : ℕ) : Type 0 where
+  pub few : m ≤ maxDigits → Fraction t s n i j d m
+  pub many : maxDigits < m → (neg : Bool) → Spoilt t (s neg) i (m - maxDigits) j

@@ -5,7 +5,7 @@ ghost use mathlib.Core.Bool.{true, not};
 ghost use mathlib.Core.Path.{_≡_};
 ghost use Prim.Native.Nat.{_^_, _≤_, _<_};
 ghost use Rattle.scan.specs.Numbers.{NumberAt, opensNumber};
-ghost use Rattle.scan.specs.Numerals.{BehindMinus, PartAt, WholeAt, first};
+ghost use Rattle.scan.specs.Numerals.{BehindMinus, FractionAt, PartAt, WholeAt, first};
 ghost use Rattle.text.proofs.Machine.{Numeral};
 ghost use Rattle.text.specs.Bytes.{isDigit};
 ghost use Rattle.text.specs.Ceilings.{maxDigits};
@@ -14,6 +14,7 @@ use crate::bytes::is_digit;
 use crate::bytes::wide;
 use crate::digits::Digits;
 use crate::digits::digits_at;
+use crate::digits::refused;
 use crate::exponent::Mantissa;
 use crate::limits::MAX_DIGITS;
 use crate::power::tail_at;
@@ -36,23 +37,51 @@ pub enum Number {
     Refused(u64, usize),
 }
 
-// The rest of a number behind its point, before which `digits` digits come to `coefficient`.
-fn fraction_at(text: &[u8], at: usize, negative: bool, coefficient: u64, digits: u64) -> Number
+// The digits from `at` on, behind the point, counted on from `digits` before it that come to `coefficient`.
+fn decimals_at(text: &[u8], at: usize, coefficient: u64, digits: u64) -> Digits
     requires { ⌜ (at ≤ length (now text)) × (digits < maxDigits) × (coefficient < 10 ^ digits) ⌝ }
-    ensures part { λ r. ⌜ PartAt (now (text .entry)) (Numeral.point negative coefficient digits) at r ⌝ }
+    ensures counted { λ r. ⌜ FractionAt (now (text .entry)) (λ negative. Numeral.point negative coefficient digits) digits at (r .end) (r .coefficient) (r .digits) ⌝ }
 {
     if text.len() <= at {
-        return Number::Refused(3, at);
+        return refused(3, at);
     }
     let b = text[at];
     if !is_digit(b) {
-        return Number::Refused(4, at);
+        return refused(4, at);
     }
-    let r = digits_at(text, at + 1, 10 * coefficient + wide(b - b'0'), digits + 1);
+    digits_at(text, at + 1, 10 * coefficient + wide(b - b'0'), digits + 1)
+}
+
+// The same from `at` on, where a point may stand and no digit.
+fn fraction_at(text: &[u8], at: usize, coefficient: u64, digits: u64) -> Digits
+    requires { ⌜ (at ≤ length (now text)) × (digits ≤ maxDigits) × (coefficient < 10 ^ digits) × T (not (isDigit (getD (now text) at 0))) ⌝ }
+    ensures counted { λ r. ⌜ FractionAt (now (text .entry)) (λ negative. Numeral.whole negative coefficient digits) digits at (r .end) (r .coefficient) (r .digits) ⌝ }
+{
+    let b = byte_at(text, at);
+    if b != b'.' {
+        return Digits {
+            end: at,
+            coefficient,
+            digits,
+        };
+    }
+    if digits == MAX_DIGITS {
+        return refused(6, at);
+    }
+    decimals_at(text, at + 1, coefficient, digits)
+}
+
+// The rest of a number behind `digits` digits before the point that come to `coefficient`. All digits are
+// counted first: `tail_at`, called from one place only, is inlined, and no answer is copied.
+fn point_at(text: &[u8], at: usize, negative: bool, coefficient: u64, digits: u64) -> Number
+    requires { ⌜ (at ≤ length (now text)) × (digits ≤ maxDigits) × (coefficient < 10 ^ digits) × T (not (isDigit (getD (now text) at 0))) ⌝ }
+    ensures part { λ r. ⌜ PartAt (now (text .entry)) (Numeral.whole negative coefficient digits) at r ⌝ }
+{
+    let r = fraction_at(text, at, coefficient, digits);
     let end = r.end;
     let n = r.digits;
     if MAX_DIGITS < n {
-        return Number::Refused(6, end);
+        return Number::Refused(n - MAX_DIGITS, end);
     }
     let m = Mantissa {
         negative,
@@ -61,27 +90,6 @@ fn fraction_at(text: &[u8], at: usize, negative: bool, coefficient: u64, digits:
         fraction: n - digits,
     };
     tail_at(text, end, m)
-}
-
-// The rest of a number behind `digits` digits before the point that come to `coefficient`.
-fn point_at(text: &[u8], at: usize, negative: bool, coefficient: u64, digits: u64) -> Number
-    requires { ⌜ (at ≤ length (now text)) × (digits ≤ maxDigits) × (coefficient < 10 ^ digits) × T (not (isDigit (getD (now text) at 0))) ⌝ }
-    ensures part { λ r. ⌜ PartAt (now (text .entry)) (Numeral.whole negative coefficient digits) at r ⌝ }
-{
-    let b = byte_at(text, at);
-    if b != b'.' {
-        let m = Mantissa {
-            negative,
-            coefficient,
-            digits,
-            fraction: 0,
-        };
-        return tail_at(text, at, m);
-    }
-    if digits == MAX_DIGITS {
-        return Number::Refused(6, at);
-    }
-    fraction_at(text, at + 1, negative, coefficient, digits)
 }
 
 // The digits before the point, of which the first, `lead`, stands before `at`. Nothing but a point or an
@@ -109,7 +117,7 @@ fn mantissa_at(text: &[u8], at: usize, negative: bool, lead: u8) -> Number
     let end = r.end;
     let n = r.digits;
     if MAX_DIGITS < n {
-        return Number::Refused(6, end);
+        return Number::Refused(n - MAX_DIGITS, end);
     }
     let b = byte_at(text, end);
     if is_digit(b) {

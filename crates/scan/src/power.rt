@@ -3,8 +3,8 @@ ghost use lib.Dec.{T};
 ghost use lib.ListN.{length, getD};
 ghost use mathlib.Core.Bool.{true, false, not};
 ghost use mathlib.Core.Path.{_≡_};
-ghost use Prim.Native.Nat.{_≤_};
-ghost use Rattle.scan.specs.Numerals.{Sound, PartAt, behindFraction, behindMark, behindSign, behindPower, passes, writtenOf};
+ghost use Prim.Native.Nat.{_≤_, _<_};
+ghost use Rattle.scan.specs.Numerals.{BehindSign, Sound, PartAt, behindFraction, behindMark, behindSign, behindPower, passes, writtenOf};
 ghost use Rattle.text.specs.Bytes.{isDigit};
 ghost use Rattle.text.specs.Ceilings.{maxDigits};
 use crate::bytes::byte_at;
@@ -86,26 +86,27 @@ fn signed_power(text: &[u8], at: usize, m: Mantissa, down: bool) -> Number
     power_rest(text, at + 1, m, down, d)
 }
 
+// The offset behind an exponent's sign, if `b`, which stands at `at`, is one.
+fn behind_sign(b: u8, at: usize) -> usize
+    requires { ⌜ at < 9223372036854775808 ⌝ }
+    ensures { λ r. ⌜ BehindSign b at r ⌝ }
+{
+    if b == b'+' {
+        return at + 1;
+    }
+    if b == b'-' {
+        return at + 1;
+    }
+    at
+}
+
 // The exponent behind its `e`.
 fn power_at(text: &[u8], at: usize, m: Mantissa) -> Number
     requires { ⌜ (at ≤ length (now text)) × Sound m ⌝ }
     ensures part { λ r. ⌜ PartAt (now (text .entry)) (behindMark m) at r ⌝ }
 {
-    if text.len() <= at {
-        return Number::Refused(3, at);
-    }
-    let b = text[at];
-    if is_digit(b) {
-        let d = wide(b - b'0');
-        return power_rest(text, at + 1, m, false, d);
-    }
-    if b == b'+' {
-        return signed_power(text, at + 1, m, false);
-    }
-    if b == b'-' {
-        return signed_power(text, at + 1, m, true);
-    }
-    Number::Refused(4, at)
+    let b = byte_at(text, at);
+    signed_power(text, behind_sign(b, at), m, b == b'-')
 }
 
 // The rest of a number behind `m`, where no digit stands: an exponent or nothing.

@@ -1,42 +1,28 @@
--- Digits are counted, and stored from the last to the first.
+-- Digits are stored from the last to the first.
+use Prim.Native.Char.{code}
 use Prim.Native.Nat.{_+_, _-_, _/_, _<_, _^_, _≤_, suc, ℕ}
 use Rattle.entries.specs.Answer.{over}
 use Rattle.meaning.specs.Canonical.{putDigits}
-use Rattle.spell.proofs.Widths.{Last, digit, digits-last, digits-one, last, width}
+use Rattle.spell.proofs.Counting.{length-one}
+use Rattle.spell.proofs.Putting.{put-one}
+use Rattle.spell.proofs.Widths.{Last, digit, digits-one, last, width, written}
 use Rattle.spell.specs.Puts.{Puts}
 use Rattle.text.specs.Bytes.{Bytes}
 use Rattle.text.specs.Ceilings.{maxDigits}
 use lib.ListN.{List·getD-append, drop, getD, length, length-append, length-set, set, take, take-append-drop}
 use lib.Seq.{drop-at, drop-cons, getD-at, getD-take, length-take-le, set-at, take-at, take-length, take-suc, take-take}
 use mathlib.Core.List.{[], _++_, _∷_, append-assoc}
-use mathlib.Core.Path.{_∙_, _≡_, ap, ap₂, refl, subst, sym}
+use mathlib.Core.Path.{_∙_, _≡_, ap, ap₂, refl, subst, subst⁻¹, sym}
 use native.Mathlib.Omega.{arith}
 
--- The digits of `c`.
-abbrev pub written : ℕ → Bytes
-written c = putDigits maxDigits c []
+-- A number of one digit.
+pub one-room : (c : ℕ) (o : Bytes) → c < 10 → length (written c) ≤ length o → 1 ≤ length o
+one-room c o h r = omega (arith, length-one c h)
 
--- `n` is how many digits `c` has behind those of `d`, and one more.
-pub record Counting (c d n : ℕ) : Type 0 where
-  pub below : d ≤ c
-  pub few : n + d ≤ c + 1
-  pub count : length (written c) + 1 ≡ n + length (written d)
-
-pub counting-start : (c : ℕ) → Counting c c 1
-counting-start c = record { below = omega arith; few = omega arith; count = omega arith }
-
-module _ {c d n : ℕ} (s : c < 10 ^ maxDigits) (k : Counting c d n) where
-  pub counting-more : 10 ≤ d → Counting c (d / 10) (n + 1)
-  counting-more h =
-      let e : length (written d) ≡ length (written (d / 10)) + 1 =
-      ap length (digits-last maxDigits d h (omega (arith, k .below))) ∙ length-append (written (d / 10)) (digit d ∷ []) in
-      record { below = omega (arith, k .below); few = omega (arith, k .few); count = omega (arith, k .count) }
-
-  pub counting-end : d < 10 → (m : ℕ) → c < 10 ^ m → 0 < m → n ≡ length (putDigits m c [])
-  counting-end h m l p =
-      let e : length (written d) ≡ 1 = ap length (digits-one maxDigits d [] h (omega arith)) in
-      let f : n ≡ length (written c) = omega (arith, k .count) in
-      f ∙ ap length (width maxDigits m c [] s l (omega arith) p)
+pub one-put : (c : ℕ) (o : Bytes) → c < 10 → length (written c) ≤ length o → (m : ℕ) → c < 10 ^ m → 0 < m → Puts (putDigits m c []) o 1 (set o 0 (code "0" + c))
+one-put c o h r m l p =
+    let e : digit c ≡ code "0" + c = omega arith in
+    subst⁻¹ (λ w. Puts w o 1 (set o 0 (code "0" + c))) (digits-one m c [] h p ∙ ap (λ b. b ∷ []) e) (put-one (code "0" + c) o (one-room c o h r))
 
 -- A list that was `a` becomes `b` from behind: one byte more.
 from-behind : (a b : Bytes) (i : ℕ) → i < length a → i < length b → set (take (suc i) a ++ drop (suc i) b) i (getD b i 0) ≡ take i a ++ drop i b

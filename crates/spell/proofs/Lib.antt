@@ -4,6 +4,7 @@ pub mod Joining
 pub mod UnitLaws
 pub mod StringLaws
 pub mod Widths
+pub mod Counting
 pub mod Filling
 pub mod Parts
 pub mod Normalising

@@ -4,6 +4,7 @@ use Prim.Native.Nat.{_%_, _+_, _/_, _<_, _^_, _≤_, suc, zero, ℕ}
 use Rattle.meaning.proofs.Append.{digits-append}
 use Rattle.meaning.specs.Canonical.{putDigits}
 use Rattle.text.specs.Bytes.{Bytes}
+use Rattle.text.specs.Ceilings.{maxDigits}
 use borrow.Author.Tests.{le-ltb, lt-ltb, ltb-false, ltb-true}
 use lib.Dec.{ltb}
 use lib.ListN.{length}
@@ -11,6 +12,10 @@ use mathlib.Core.Bool.{Bool, false, true}
 use mathlib.Core.List.{[], _++_, _∷_}
 use mathlib.Core.Path.{_∙_, _≡_, ap, refl, sym}
 use native.Mathlib.Omega.{arith}
+
+-- The digits of `c`.
+abbrev pub written : ℕ → Bytes
+written c = putDigits maxDigits c []
 
 -- The last digit of `c`.
 abbrev pub digit : ℕ → ℕ

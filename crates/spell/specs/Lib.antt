@@ -3,3 +3,4 @@ pub mod Puts
 pub mod Scalars
 pub mod Normals
 pub mod Strings
+pub mod Numerals

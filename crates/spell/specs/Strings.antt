@@ -3,6 +3,7 @@ use Prim.Native.Char.{code}
 use Prim.Native.Nat.{ℕ, _-_, _/_, _%_, _≤_}
 use Rattle.meaning.specs.Canonical.{hexDigit, putUnits}
 use Rattle.names.specs.Units.{units}
+use Rattle.spell.specs.Puts.{Puts}
 use Rattle.text.specs.Bytes.{Bytes}
 use lib.Dec.{eqb}
 use lib.ListN.{drop, length, take}
@@ -31,3 +32,8 @@ pub record Plain (t : Bytes) (i j : ℕ) : Type 0 where
   pub onward : i ≤ j
   pub bound : j ≤ length t
   pub part : Part t i j (take (j - i) (drop i t))
+
+-- They stand so at the front of an output that held `o`, and `n` is their number.
+pub record Copied (t : Bytes) (i j : ℕ) (o : Bytes) (n : ℕ) (o′ : Bytes) : Type 0 where
+  pub plain : Plain t i j
+  pub puts : Puts (take (j - i) (drop i t)) o n o′

@@ -31,11 +31,14 @@ returns c =
     let l = c .before .before .before .before .loop .inv in
     record { few = λ h. (l .0, fails _ _ (c .before .is-digit .ensures) (not-true _ (c .if1 .taken))); many = λ h. absurd (omega (arith, l .1)) }
 
+refused-requires : tie.Need-refused-requires Inv-loop μ-loop
+refused-requires c κs = search needs
+
 returns-2 : tie.Need-returns-2 Inv-loop μ-loop
 returns-2 c =
-    let l = c .before .before .before .before .before .loop .inv in
-    let d = holds _ _ (c .before .before .is-digit .ensures) (not-false _ (c .before .if1 .left)) in
-    record { few = λ h. absurd (omega arith); many = λ h. counted-many _ _ _ _ _ _ _ (l .0) (c .before .before .before .before .loop-test .taken) d (omega arith) }
+    let l = c .before .before .before .before .before .before .loop .inv in
+    let d = holds _ _ (c .before .before .before .is-digit .ensures) (not-false _ (c .before .before .if1 .left)) in
+    counted-many _ _ _ _ _ _ _ (l .0) (c .before .before .before .before .before .loop-test .taken) d _ _ _ (omega arith) (c .refused .ensures .0) (c .refused .ensures .1)
 
 mul-c : tie.Need-mul-c Inv-loop μ-loop
 mul-c c =
@@ -86,6 +89,7 @@ digits-at-spec =
     shared-slice-read-b
     is-digit-requires
     returns
+    refused-requires
     returns-2
     mul-c
     sub-wide

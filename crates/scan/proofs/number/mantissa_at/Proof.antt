@@ -7,6 +7,9 @@ use Rattle.scan.proofs.number.mantissa_at.Tie as tie
 whole-at-requires : tie.Need-whole-at-requires
 whole-at-requires c κs = search needs
 
+sub-t10 : tie.Need-sub-t10
+sub-t10 c = search needs
+
 -- src/number.rt:112:9
 returns : tie.Need-returns
 returns c = whole-over _ _ _ (c .before .before .before .pre .0) _ _ _ _ (c .before .whole-at .ensures) (c .if1 .taken)
@@ -36,6 +39,7 @@ mantissa-at-spec =
     tie.close
     (tie.spec
     whole-at-requires
+    sub-t10
     returns
     byte-at-requires
     is-digit-requires

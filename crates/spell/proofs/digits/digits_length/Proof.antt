@@ -1,31 +1,29 @@
--- Digits are cut off one by one until one is left.
-use Rattle.spell.proofs.Filling.{Counting, counting-end, counting-more, counting-start}
+-- Nine digits stand behind those that are left.
+use Rattle.spell.proofs.Counting.{counted, length-one, many-count}
+use mathlib.Core.Path.{sym}
 use borrow.Author.Needs.{needs}
-use native.Mathlib.Omega.{arith}
 use Rattle.spell.proofs.digits.digits_length.Statement.{statement}
 use Rattle.spell.proofs.digits.digits_length.Tie as tie
 
-abbrev Inv-loop : tie.InvT-loop
-Inv-loop c d₀ n₀ d n = Counting c d n
+returns : tie.Need-returns
+returns c = let s = c .before .pre in counted s (sym (length-one (c .before .args .c) (c .if1 .taken)))
 
-abbrev μ-loop : tie.MeasureT-loop
-μ-loop c d₀ n₀ d n = d
+few-length-requires : tie.Need-few-length-requires
+few-length-requires c κs = search needs
 
-loop-holds : tie.Need-loop-holds Inv-loop μ-loop
-loop-holds c = counting-start (c .args .c)
+returns-2 : tie.Need-returns-2
+returns-2 c = counted (c .before .before .before .pre) (c .few-length .ensures .0)
 
-add-n : tie.Need-add-n Inv-loop μ-loop
-add-n c = search needs
+few-length-requires-2 : tie.Need-few-length-requires-2
+few-length-requires-2 c κs = search needs
 
-loop-less : tie.Need-loop-less Inv-loop μ-loop
-loop-less c = search needs
+add-result : tie.Need-add-result
+add-result c = search needs
 
-loop-again : tie.Need-loop-again Inv-loop μ-loop
-loop-again c = counting-more (c .before .before .pre) (c .before .loop .inv) (omega arith)
-
-returns : tie.Need-returns Inv-loop μ-loop
-returns c = counting-end (c .before .before .pre) (c .before .loop .inv) (omega arith)
+returns-3 : tie.Need-returns-3
+returns-3 c = let s = c .before .before .before .pre in counted s (many-count s (c .before .if2 .left) (c .few-length2 .ensures .0))
 
 pub digits-length-spec : {M : Type 1} → statement M
 digits-length-spec =
-    tie.close (tie.spec Inv-loop μ-loop loop-holds add-n loop-less loop-again returns)
+    tie.close
+    (tie.spec returns few-length-requires returns-2 few-length-requires-2 add-result returns-3)

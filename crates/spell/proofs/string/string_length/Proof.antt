@@ -1,83 +1,60 @@
--- The characters before `i` take `n` bytes with the opening quote.
-use Prim.Native.Nat.{_*_, _+_, _-_, _≤_}
-use Rattle.names.specs.Units.{units}
-use Rattle.spell.proofs.StringLaws.{none-ending, part-length, plain-length, some-part}
-use Rattle.spell.specs.Scalars.{quoted}
-use Rattle.spell.specs.Strings.{ending}
-use lib.ListN.{drop, length}
-use mathlib.Core.Path.{_≡_, ap}
+use Rattle.spell.proofs.StringLaws.{plain-length, quote-ending}
+use lib.ListN.{length}
+use mathlib.Core.Path.{_∙_, ap, sym}
 use native.Mathlib.Omega.{arith}
 use borrow.Author.Needs.{needs}
 use Rattle.spell.proofs.string.string_length.Statement.{statement}
 use Rattle.spell.proofs.string.string_length.Tie as tie
 
-abbrev Inv-loop : tie.InvT-loop
-Inv-loop text q i₀ n₀ i n = (i ≤ length text) × (n ≤ 6 * i) × (n + length (ending text i) ≡ length (quoted (units (drop (q + 1) text))))
+add-plain-before : tie.Need-add-plain-before
+add-plain-before c = search needs
 
-abbrev μ-loop : tie.MeasureT-loop
-μ-loop text q i₀ n₀ i n = length text - i
+add-near : tie.Need-add-near
+add-near c = search needs
 
-add-i : tie.Need-add-i Inv-loop μ-loop
-add-i c = search needs
+near-requires : tie.Need-near-requires
+near-requires c κs = search needs
 
-loop-holds : tie.Need-loop-holds Inv-loop μ-loop
-loop-holds c = search needs
+plain-before-requires : tie.Need-plain-before-requires
+plain-before-requires c κs = search needs
 
-bare-run-requires : tie.Need-bare-run-requires Inv-loop μ-loop
-bare-run-requires c κs = search needs
+byte-at-requires : tie.Need-byte-at-requires
+byte-at-requires c κs = search needs
 
-unit-at-requires : tie.Need-unit-at-requires Inv-loop μ-loop
-unit-at-requires c κs = search needs
-
-sub-result : tie.Need-sub-result Inv-loop μ-loop
+sub-result : tie.Need-sub-result
 sub-result c = search needs
 
-add-result : tie.Need-add-result Inv-loop μ-loop
+add-result : tie.Need-add-result
 add-result c = search needs
 
-add-result-2 : tie.Need-add-result-2 Inv-loop μ-loop
+returns : tie.Need-returns
+returns c = omega (arith, plain-length _ (c .before .before .plain-before .ensures), ap length (quote-ending (c .before .before .before .before .before .args .text .now) (c .before .before .plain-before .result) (sym (c .before .byte-at .ensures) ∙ c .if1 .taken)), c .before .before .plain-before .ensures .onward)
+
+sub-result-2 : tie.Need-sub-result-2
+sub-result-2 c = search needs
+
+ending-length-requires : tie.Need-ending-length-requires
+ending-length-requires c κs = search needs
+
+add-result-2 : tie.Need-add-result-2
 add-result-2 c = search needs
 
-returns : tie.Need-returns Inv-loop μ-loop
-returns c = omega (arith, plain-length _ (c .before .before .bare-run .ensures), ap length (none-ending _ (c .before .unit-at .ensures) (c .if1 .taken)))
-
-sub-n : tie.Need-sub-n Inv-loop μ-loop
-sub-n c = search needs
-
-add-n : tie.Need-add-n Inv-loop μ-loop
-add-n c = search needs
-
-unit-length-requires : tie.Need-unit-length-requires Inv-loop μ-loop
-unit-length-requires c κs = search needs
-
-add-n-2 : tie.Need-add-n-2 Inv-loop μ-loop
-add-n-2 c = search needs
-
-loop-less : tie.Need-loop-less Inv-loop μ-loop
-loop-less c = let (e, h, k, l) = c .before .before .unit-at .ensures .some (c .before .if1 .left) in omega arith
-
-loop-again : tie.Need-loop-again Inv-loop μ-loop
-loop-again c =
-    let (e, h, k, l) = c .before .before .unit-at .ensures .some (c .before .if1 .left) in
-    (k, omega arith, omega (arith, plain-length _ (c .before .before .before .bare-run .ensures), part-length _ (some-part _ (c .before .before .unit-at .ensures) (c .before .if1 .left))))
+returns-2 : tie.Need-returns-2
+returns-2 c = omega (arith, plain-length _ (c .before .before .before .plain-before .ensures), c .ending-length .ensures .0, c .before .before .before .plain-before .ensures .onward)
 
 pub string-length-spec : {M : Type 1} → statement M
 string-length-spec =
     tie.close
     (tie.spec
-    Inv-loop
-    μ-loop
-    add-i
-    loop-holds
-    bare-run-requires
-    unit-at-requires
+    add-plain-before
+    add-near
+    near-requires
+    plain-before-requires
+    byte-at-requires
     sub-result
     add-result
-    add-result-2
     returns
-    sub-n
-    add-n
-    unit-length-requires
-    add-n-2
-    loop-less
-    loop-again)
+    sub-result-2
+    ending-length-requires
+    add-result-2
+    returns-2)
