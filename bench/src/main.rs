@@ -11,6 +11,9 @@ mod library;
 mod measure;
 mod padded;
 #[allow(dead_code)]
+#[path = "../../tests/src/part.rs"]
+mod part;
+#[allow(dead_code)]
 #[path = "../../tests/src/random.rs"]
 mod random;
 mod reading;
