@@ -30,8 +30,8 @@ pub by-index : (p n a e : ℕ) (vs : Nodes) {us : Units} {i : ℕ} → Index us 
 by-index p n a e vs {us} {i} x l = by (isIndex us) (ltb i maxRecords) refl refl
   where
     by : (b c : Bool) → isIndex us ≡ b → ltb i maxRecords ≡ c → child p us n (Node.array a e vs) ≡ nth p i (suc n) vs
-    by true true f g = array-child p us n a e vs true f ∙ ap (λ i. nth p i (suc n) vs) (x .small f (ltb-true i maxRecords g))
+    by true true f g = array-child p us n a e vs true f ∙ ap (λ i. nth p i (suc n) vs) (x .capped .small f (ltb-true i maxRecords g))
     by true false f g =
-        array-child p us n a e vs true f ∙ nth-past p (valueFrom 0 us) (suc n) vs (omega (arith, l, x .great f (ltb-false i maxRecords g)))
+        array-child p us n a e vs true f ∙ nth-past p (valueFrom 0 us) (suc n) vs (omega (arith, l, x .capped .great f (ltb-false i maxRecords g)))
         ∙ sym (nth-past p i (suc n) vs (omega (arith, l, ltb-false i maxRecords g)))
-    by false c f g = array-child p us n a e vs false f ∙ sym (nth-past p i (suc n) vs (omega (arith, l, x .none f)))
+    by false c f g = array-child p us n a e vs false f ∙ sym (nth-past p i (suc n) vs (omega (arith, l, x .capped .none f)))

@@ -1,8 +1,8 @@
 -- What the units of a token say of the index that it is.
 use Prim.Native.Char.{code}
 use Prim.Native.Nat.{ℕ, _*_, _+_, _-_, _≤_}
-use Rattle.lookup.specs.Reading.{Capped, DigitsFrom, TokenStep}
-use Rattle.lookup.specs.Tokens.{Index, tokenUnits}
+use Rattle.lookup.specs.Reading.{DigitsFrom, TokenStep}
+use Rattle.lookup.specs.Tokens.{Capped, Index, tokenUnits}
 use Rattle.meaning.proofs.NumberTrip.{nonzero-digit}
 use Rattle.meaning.specs.Lookup.{allDigits, isIndex}
 use Rattle.members.specs.Records.{maxRecords}
@@ -68,7 +68,7 @@ module _ {t : Bytes} {i c next : ℕ} (s : TokenStep t i c next) (a : ℕ) where
 
 -- The index of a whole token, whose first unit is `c`.
 capped-index : {us : Units} {z : ℕ} → Capped (isIndex us) (valueFrom 0 us) z → Index us z
-capped-index c = record { small = c .small; great = c .great; none = c .none }
+capped-index c = record { capped = c }
 
 index-nonzero : (c : ℕ) (us : Units) → isDigit c ≡ true → isNonzero c ≡ true → isIndex (c ∷ us) ≡ allDigits us
 unfolding isIndex allDigits

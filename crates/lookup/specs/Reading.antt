@@ -1,14 +1,13 @@
 -- What the parts of reading a pointer and its tokens promise.
 use Prim.Native.Char.{code}
 use Prim.Native.Nat.{ℕ, _<_, _≤_}
-use Rattle.lookup.specs.Tokens.{tokenUnits}
+use Rattle.lookup.specs.Tokens.{Capped, tokenUnits}
 use Rattle.meaning.specs.Lookup.{allDigits}
-use Rattle.members.specs.Records.{maxRecords}
 use Rattle.names.specs.Steps.{endCode}
 use Rattle.text.specs.Bytes.{Bytes, valueFrom}
 use lib.Dec.{eqb, ltb}
 use lib.ListN.{drop, getD, length}
-use mathlib.Core.Bool.{Bool, _&&_, _||_, cond, false, true}
+use mathlib.Core.Bool.{Bool, _&&_, _||_, cond}
 use mathlib.Core.List.{[], _∷_}
 use mathlib.Core.Path.{_≡_}
 
@@ -24,12 +23,6 @@ pub record TokenStep (t : Bytes) (i c next : ℕ) : Type 0 where
   pub none : c ≡ endCode → tokenUnits (drop i t) ≡ []
   pub some : (c ≡ endCode → ⊥) → (tokenUnits (drop i t) ≡ c ∷ tokenUnits (drop next t)) × (i < next) × (next ≤ length t)
 
--- `z` is the number `n`, or at least `maxRecords` where `n` is so great or `is` says that there is no number.
-pub record Capped (is : Bool) (n z : ℕ) : Type 0 where
-  pub small : is ≡ true → z < maxRecords → n ≡ z
-  pub great : is ≡ true → maxRecords ≤ z → maxRecords ≤ n
-  pub none : is ≡ false → maxRecords ≤ z
-
--- It is the number that the units of the token from `i` on come to behind the number `a`, if they are digits.
+-- `z` is the number that the units of the token from `i` on come to behind the number `a`, if they are digits.
 abbrev pub DigitsFrom : Bytes → ℕ → ℕ → ℕ → Type 0
 DigitsFrom t i a z = Capped (allDigits (tokenUnits (drop i t))) (valueFrom a (tokenUnits (drop i t))) z

@@ -7,7 +7,7 @@ use Rattle.members.specs.Records.{maxRecords}
 use Rattle.text.specs.Bytes.{Bytes, Units, from, valueFrom}
 use lib.Dec.{eqb}
 use lib.ListN.{drop, getD, length, take}
-use mathlib.Core.Bool.{cond, false, true}
+use mathlib.Core.Bool.{Bool, cond, false, true}
 use mathlib.Core.List.{List, [], _∷_}
 use mathlib.Core.Path.{_≡_}
 
@@ -43,9 +43,12 @@ pub record Checked (p : Bytes) (z : ℕ) : Type 0 where
   pub well : z ≡ wellFormed → (ts : List Token) × Pointer p ts
   pub bad : (z ≡ wellFormed → ⊥) → Malformed p z
 
--- `z` is the index that the units `us` are, or at least `maxRecords` where they are none or one so great: no array has so
--- many elements.
+-- `z` is the number `n`, or at least `maxRecords` where `n` is so great or `is` says that there is no number.
+pub record Capped (is : Bool) (n z : ℕ) : Type 0 where
+  pub small : is ≡ true → z < maxRecords → n ≡ z
+  pub great : is ≡ true → maxRecords ≤ z → maxRecords ≤ n
+  pub none : is ≡ false → maxRecords ≤ z
+
+-- `z` is the index that the units `us` are: no array has `maxRecords` elements.
 pub record Index (us : Units) (z : ℕ) : Type 0 where
-  pub small : isIndex us ≡ true → z < maxRecords → valueFrom 0 us ≡ z
-  pub great : isIndex us ≡ true → maxRecords ≤ z → maxRecords ≤ valueFrom 0 us
-  pub none : isIndex us ≡ false → maxRecords ≤ z
+  pub capped : Capped (isIndex us) (valueFrom 0 us) z
