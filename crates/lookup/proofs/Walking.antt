@@ -12,7 +12,8 @@ use Rattle.reader.specs.Answers.{answerOf, answered}
 use Rattle.reader.specs.declared.answer.Answer.{Answer}
 use Rattle.text.specs.Bytes.{Bytes, Units, from}
 use Rattle.text.specs.Node.{Node}
-use Rattle.text.specs.Table.{Words}
+use Rattle.text.specs.Table.{Words, unnamed}
+use Rattle.values.proofs.Records.{held-few, held-onward}
 use Rattle.values.specs.Held.{Held}
 use lib.ListN.{drop, length, take}
 use mathlib.Core.List.{List, [], _∷_}
@@ -38,8 +39,8 @@ pointer-short (Pointer.pointer l x) = l
 pub walk-start : {t : Bytes} {w : Words} {p : Bytes} {ts : List Token} {v : Node} → Held t w 0 v → Pointer p ts → Walking t w p ts v 0 0
 walk-start {v = v} h x = record { here = v; held = h; rest = _; left = pointer-left x; same = refl }
 
-pub held-small : {t : Bytes} {w : Words} {r : ℕ} {v : Node} → Held t w r v → r ≤ 4_294_967_295
-held-small (Held.held x s h) = omega (arith, x .onward, x .few)
+pub held-small : {t : Bytes} {w : Words} {r : ℕ} {v : Node} → Held t w r v → r ≤ unnamed
+held-small h = omega (arith, held-onward h, held-few h)
 
 -- The next token.
 pub record Next (p : Bytes) (i : ℕ) (rest : List Token) : Type 0 where
