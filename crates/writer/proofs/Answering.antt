@@ -14,10 +14,10 @@ use Rattle.text.specs.Bytes.{Bytes}
 use Rattle.text.specs.Node.{Node}
 use Rattle.text.specs.Table.{Words}
 use Rattle.values.proofs.Holding.{reading-held}
+use Rattle.writer.proofs.Lengths.{too-long, too-narrow, well-written}
 use Rattle.writer.specs.Writes.{Writes, textOf}
 use lib.ListN.{length}
-use mathlib.Core.Path.{_∙_, _≡_, ap, refl, subst, subst⁻¹}
-use native.Mathlib.Omega.{arith}
+use mathlib.Core.Path.{_≡_, refl, subst⁻¹}
 
 -- A text that was read, and its canonical text.
 pub record Accepted (t : Bytes) (w w′ : Words) : Type 0 where
@@ -49,13 +49,10 @@ module _ {t : Bytes} {w w′ : Words} (p : Accepted t w w′) {n : ℕ} (e : n �
   wrote = Writer.done (p .reading) (p .canonical)
 
   pub long : maxText < n → r ≡ answered 13 3 n 0 → Writer t w o (answerOf r) w′ o
-  long l f = wrote (subst⁻¹ (λ a. Writing (textOf (p .value)) o a o) (ap answerOf f ∙ ap (λ n. answerOf (answered 13 3 n 0)) e) (Writing.long (omega arith)))
+  long l f = wrote (too-long e o l f)
 
   pub narrow : n ≤ maxText → length o < n → r ≡ answered 12 3 n 0 → Writer t w o (answerOf r) w′ o
-  narrow l m f = wrote (subst⁻¹ (λ a. Writing (textOf (p .value)) o a o) (ap answerOf f ∙ ap (λ n. answerOf (answered 12 3 n 0)) e) (Writing.narrow (omega arith) (omega arith)))
+  narrow l m f = wrote (too-narrow e o l m f)
 
   pub written : {k : ℕ} {w″ : Words} {o′ : Bytes} → w″ ≡ w′ → n ≤ maxText → n ≤ length o → Puts (textOf (p .value)) o k o′ → r ≡ answered 0 0 0 n → Writer t w o (answerOf r) w″ o′
-  written {o′ = o′} g l m q f =
-      subst⁻¹ (λ w′. Writer t w o (answerOf r) w′ o′) g
-      (wrote (subst⁻¹ (λ a. Writing (textOf (p .value)) o a o′) (ap answerOf f ∙ ap (λ n. answerOf (answered 0 0 0 n)) e)
-      (subst⁻¹ (Writing (textOf (p .value)) o _) (q .now) (Writing.written (omega arith) (omega arith)))))
+  written {o′ = o′} g l m q f = subst⁻¹ (λ w′. Writer t w o (answerOf r) w′ o′) g (wrote (well-written e o l m (q .now) f))

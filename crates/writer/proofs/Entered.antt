@@ -63,7 +63,7 @@ module _ (t : Bytes) (w u : Words) (d r : ℕ) (cs : List Child) (h : HeldAll t 
   abbrev entryText : ℕ → Bytes
   entryText x = named t (word u x 2) ++ put (treeAt cs (suc r) x) []
 
-  entry-of : (x : ℕ) → In x (places (suc r) cs) → Nameable t (word w x 2) → Entry t u x (d + 1) (entryText x)
+  pub entry-of : (x : ℕ) → In x (places (suc r) cs) → Nameable t (word w x 2) → Entry t u x (d + 1) (entryText x)
   entry-of x i n =
       let p = inner h k i in
       let y : Held t u x (p .value) = held-stays f (p .held) (λ z a b. inside-none h i (omega arith) (omega (arith, held-record (p .held)))) in
@@ -72,7 +72,7 @@ module _ (t : Bytes) (w u : Words) (d r : ℕ) (cs : List Child) (h : HeldAll t 
       (ap (λ z. named t (word u x 2) ++ put z []) (sym (p .sorted)))
 
 -- The siblings that are counted are those entries.
-same-siblings : {t : Bytes} {w : Words} {r e : ℕ} {cs : List Child} (n : ℕ) → HeldAll t w (suc r) cs → e ≡ suc r + sizes cs → Siblings w e (r + 1) (siblingsOf w n (r + 1)) → siblingsOf w n (r + 1) ≡ places (suc r) cs
+pub same-siblings : {t : Bytes} {w : Words} {r e : ℕ} {cs : List Child} (n : ℕ) → HeldAll t w (suc r) cs → e ≡ suc r + sizes cs → Siblings w e (r + 1) (siblingsOf w n (r + 1)) → siblingsOf w n (r + 1) ≡ places (suc r) cs
 same-siblings {w = w} {r} {e} {cs} n h f s =
     let a : Siblings w e (r + 1) (places (suc r) cs) =
     subst⁻¹ (λ e. Siblings w e (r + 1) (places (suc r) cs)) f (subst⁻¹ (λ k. Siblings w (suc r + sizes cs) k (places (suc r) cs)) (add-one r) (held-siblings h)) in
@@ -81,16 +81,16 @@ same-siblings {w = w} {r} {e} {cs} n h f s =
 -- An object whose members are linked in order.
 module _ (t : Bytes) (w u : Words) (d r n x : ℕ) (ms : Members) (s : Spelt t 0 ms) (h : HeldAll t w (suc r) (members ms)) (k : Keeps d (Tree.object (pairs ms)))
     (p : Linked (inOrder t w) w (places (suc r) (members ms)) u (chainOf u n x)) where
-  abbrev name : ℕ → Units
+  abbrev pub name : ℕ → Units
   name = nameOf t w
 
-  abbrev value : ℕ → Tree
+  abbrev pub value : ℕ → Tree
   value = treeAt (members ms) (suc r)
 
   abbrev own : List ℕ
   own = places (suc r) (members ms)
 
-  inner-pairs : {d : ℕ} {ps : Pairs} → Keeps d (Tree.object ps) → KeepsPairs (suc d) ps
+  pub inner-pairs : {d : ℕ} {ps : Pairs} → Keeps d (Tree.object ps) → KeepsPairs (suc d) ps
   inner-pairs (Keeps.object l z) = z
 
   distinct : (a b : ℕ) → In a own → In b own → name a ≡ name b → a ≡ b
@@ -100,7 +100,7 @@ module _ (t : Bytes) (w u : Words) (d r n x : ℕ) (ms : Members) (s : Spelt t 0
   value-sorted a i = let z = inner h (keeps-members ms (inner-pairs k)) (p .same .to a i) in subst⁻¹ meaning.Sorted (z .sorted) (sorted-canon (z .keeps))
 
   -- They are the members of the canonical text.
-  object-canon : Tree.object (pairsOf name value (chainOf u n x)) ≡ canon (Tree.object (pairs ms))
+  pub object-canon : Tree.object (pairsOf name value (chainOf u n x)) ≡ canon (Tree.object (pairs ms))
   unfolding mean
   object-canon =
       sorted-one (meaning.Sorted.object (gathered-sorted name value (p .sorted) (λ a b i j. distinct a b (p .same .to a i) (p .same .to b j)) value-sorted)) (sorted-canon k)

@@ -22,7 +22,7 @@ use native.Mathlib.Omega.{arith}
 use Rattle.text.proofs.Tests.{is-true}
 
 -- The order by numbers is the order of names.
-order-before : (j k : Units) → order j k ≡ 0 → Before j k
+pub order-before : (j k : Units) → order j k ≡ 0 → Before j k
 unfolding order
 order-before [] [] e = absurd (omega arith)
 order-before [] (y ∷ ys) e = Before.prefix

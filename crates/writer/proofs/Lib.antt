@@ -10,4 +10,5 @@ pub mod Inner
 pub mod Opening
 pub mod Entered
 pub mod Writing
+pub mod Lengths
 pub mod Answering

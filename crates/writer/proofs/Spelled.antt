@@ -33,23 +33,24 @@ module _ (value : ℕ → Tree) where
   array-text [] = refl
   array-text (x ∷ l) = ap (λ o. code "[" ∷ o) (elements-text x l)
 
+-- A member, whatever stands behind it.
+pub member-text : (k : Units) (v : Tree) (o : Bytes) → ((quoted k ++ (code ":" ∷ [])) ++ put v []) ++ o ≡ code "\"" ∷ putUnits k (code "\"" ∷ code ":" ∷ put v o)
+member-text k v o =
+    ap (λ u. code "\"" ∷ u)
+    (ap (λ (u : Bytes). (u ++ put v []) ++ o) (sym (units-append k (code "\"" ∷ []) (code ":" ∷ [])))
+    ∙ ap (λ (u : Bytes). u ++ o) (sym (units-append k (code "\"" ∷ code ":" ∷ []) (put v [])))
+    ∙ sym (units-append k (code "\"" ∷ code ":" ∷ put v []) o)
+    ∙ ap (λ u. putUnits k (code "\"" ∷ code ":" ∷ u)) (sym (put-alone v o)))
+
 -- An object's members.
 module _ (name : ℕ → Units) (value : ℕ → Tree) where
   abbrev member : ℕ → Bytes
   member x = (quoted (name x) ++ (code ":" ∷ [])) ++ put (value x) []
 
-  member-text : (x : ℕ) (o : Bytes) → member x ++ o ≡ code "\"" ∷ putUnits (name x) (code "\"" ∷ code ":" ∷ put (value x) o)
-  member-text x o =
-      ap (λ u. code "\"" ∷ u)
-      (ap (λ (u : Bytes). (u ++ put (value x) []) ++ o) (sym (units-append (name x) (code "\"" ∷ []) (code ":" ∷ [])))
-      ∙ ap (λ (u : Bytes). u ++ o) (sym (units-append (name x) (code "\"" ∷ code ":" ∷ []) (put (value x) [])))
-      ∙ sym (units-append (name x) (code "\"" ∷ code ":" ∷ put (value x) []) o)
-      ∙ ap (λ u. putUnits (name x) (code "\"" ∷ code ":" ∷ u)) (sym (put-alone (value x) o)))
-
   members-text : (x : ℕ) (l : List ℕ) → closed (code "}") (each member (x ∷ l)) ≡ putObject (pairsOf name value (x ∷ l)) []
   unfolding closed each pairsOf put
-  members-text x [] = member-text x (code "}" ∷ [])
-  members-text x (y ∷ l) = ap (λ o. member x ++ (code "," ∷ o)) (members-text y l) ∙ member-text x (putRest (pairsOf name value (y ∷ l)) [])
+  members-text x [] = member-text (name x) (value x) (code "}" ∷ [])
+  members-text x (y ∷ l) = ap (λ o. member x ++ (code "," ∷ o)) (members-text y l) ∙ member-text (name x) (value x) (putRest (pairsOf name value (y ∷ l)) [])
 
   pub object-text : (l : List ℕ) → container (code "{") (each member l) ≡ put (Tree.object (pairsOf name value l)) []
   unfolding container each pairsOf put

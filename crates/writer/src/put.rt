@@ -44,7 +44,7 @@ fn mark_behind(b: u8, i: usize) -> u8
 }
 
 // Writes an empty container.
-fn put_empty(b: u8, out: &mut [u8]) -> usize
+pub fn put_empty(b: u8, out: &mut [u8]) -> usize
     requires { ⌜ (b + 2 < 256) × (2 ≤ length (now out)) ⌝ }
     ensures put { λ n. ⌜ Puts (container b []) (now (out .entry)) n (now (out .exit)) ⌝ }
 {
