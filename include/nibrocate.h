@@ -1,5 +1,5 @@
-/* Nibrocate: reads JSON texts into a lent table, writes them canonically, and looks values up by JSON pointer. Link
- * with libnibrocate.a.
+/* Nibrocate: reads JSON texts into a lent table, writes them canonically, looks values up by JSON pointer, and applies
+ * merge patches. Link with libnibrocate.a.
  *
  * Promises of every function here:
  * - It takes any bytes, of any length, and any length of table and output. No input is forbidden, none is undefined.
@@ -9,7 +9,7 @@
  *
  * What it asks of the caller: each address leads to as many elements as the length beside it says, a table is aligned
  * as uint32_t is, and a table or an output overlaps nothing else that is lent to the same call. A null address with
- * length 0 is fine. A JSON pointer may be a part of the text.
+ * length 0 is fine. What is only read may overlap: a JSON pointer may be a part of the text, and a patch the target.
  */
 #ifndef NIBROCATE_H
 #define NIBROCATE_H
@@ -22,7 +22,8 @@ extern "C" {
 #endif
 
 /* Sizes: a longer text is refused, be it read or to be written, and so is a longer JSON pointer; a table needs this
- * many words for each byte of the text; and a canonical text has at most this many bytes for each byte of the text. */
+ * many words for each byte of its text; and a canonical text has at most this many bytes for each byte of the text, or,
+ * where it is that of a merge, for each byte of target and patch together. */
 #define NIB_TEXT_BYTES 1048576
 #define NIB_POINTER_BYTES 65536
 #define NIB_WORDS_PER_BYTE 4
@@ -34,9 +35,9 @@ extern "C" {
 /* Why a call is refused. NIB_ACCEPTED is no refusal; only the number tells, never the count. */
 enum {
   NIB_ACCEPTED = 0,
-  NIB_TEXT_TOO_LONG = 1,      /* the text has over 1,048,576 bytes; place 0 */
-  NIB_TABLE_TOO_SHORT = 2,    /* the table has fewer than 4 words for each byte of the text; place 0 */
-  NIB_UNFINISHED = 3,         /* the text ends too early, but could be continued; place is its length */
+  NIB_TEXT_TOO_LONG = 1,      /* a text has over 1,048,576 bytes; place 0 */
+  NIB_TABLE_TOO_SHORT = 2,    /* a table has fewer than 4 words for each byte of its text; place 0 */
+  NIB_UNFINISHED = 3,         /* a text ends too early, but could be continued; place is its length */
   NIB_WRONG_BYTE = 4,         /* a byte that can't stand there, for no reason below; for 4 to 9, place is its offset */
   NIB_TOO_DEEP = 5,           /* a bracket that would open a 65th container */
   NIB_TOO_MANY_DIGITS = 6,    /* a number with over 18 digits before and behind the point together */
@@ -51,9 +52,10 @@ enum {
 
 /* The answer to a call.
  * Accepted: number, input and place are 0, and count is the number of records (nib_read), the number of bytes written
- * (nib_write) or the number of the record found (nib_find).
- * Refused: number says why, input is 1 (the text; for 1 to 9), 2 (the JSON pointer; for 10 and 11) or 3 (the output;
- * for 12 and 13), place says where or how many bytes are needed, and count is 0. */
+ * (nib_write, nib_merge) or the number of the record found (nib_find).
+ * Refused: number says why, input is 1 (the text or the target; for 1 to 9), 2 (the patch, for 1 to 9, or the JSON
+ * pointer, for 10 and 11) or 3 (the output; for 12 and 13), place says where in that input or how many bytes are needed,
+ * and count is 0. A table that is too short is told by the input of its text. */
 typedef struct {
   uint32_t number, input, place, count;
 } nib_answer;
@@ -128,6 +130,36 @@ nib_answer nib_find(const uint8_t *text, size_t text_len, uint32_t *table, size_
  * The table at exit is as nib_find leaves it. */
 nib_part nib_part_of(const uint8_t *text, size_t text_len, uint32_t *table, size_t table_words, const uint8_t *pointer,
                      size_t pointer_len);
+
+/* Applies a merge patch (RFC 7396) to a target, and writes the canonical text of the result, which is as said at
+ * nib_write, to the front of the output. Neither text is changed.
+ * - A patch that isn't an object is itself the result, whatever the target is.
+ * - A patch that is an object changes the target's members; a target that isn't an object counts as {}. A member of the
+ *   patch that is null removes the target's member of that name, where there is one. Any other sets that name to the
+ *   result of merging its value, as a patch and by these same rules, into the member's old value, or into {} where
+ *   there is none. The members that the patch doesn't name stay as they are, null or not.
+ * - So a null that is reached in the patch through objects only never stands in the result, be there a target for it or
+ *   not; but arrays of the patch are taken as they are, with any null inside them.
+ * Names are the same where their units are, escapes resolved, however each text spells them. Targets that mean the
+ * same, with patches that mean the same, give the same bytes. Merging a patch into its own result gives that result
+ * again. The result is no deeper than the deeper of the two texts.
+ *
+ * Where several refusals apply, those of nib_read for the target go first, with input 1, then those of nib_read for the
+ * patch, with input 2, then 13, then 12, both with input 3 and the whole length needed as place; so 13 is given even
+ * where the output could hold the result. An output of length 0 asks for the length: where nothing else is refused, the
+ * answer is 12 with the length needed as its place. 12 can't appear where out_len is at least NIB_TEXT_BYTES, or at
+ * least NIB_CANONICAL_GROWTH x (target_len + patch_len).
+ *
+ * The tables at exit:
+ * - the target's is as nib_read leaves it, whatever becomes of the patch;
+ * - the patch's is as at entry where the target is refused, and as nib_read leaves it otherwise;
+ * so in 12 and 13, as in success, both hold the records of their texts, and table[3] is how many there are.
+ * The output at exit:
+ * - accepted: the first count bytes are the result's canonical text, and every later byte is as at entry;
+ * - refused: every byte is as at entry. */
+nib_answer nib_merge(const uint8_t *target, size_t target_len, uint32_t *target_table, size_t target_words,
+                     const uint8_t *patch, size_t patch_len, uint32_t *patch_table, size_t patch_words, uint8_t *out,
+                     size_t out_len);
 
 #ifdef __cplusplus
 }

@@ -69,8 +69,38 @@ static int check_find(void) {
   return narrow.number == NIB_TABLE_TOO_SHORT && narrow.input == 1 ? 0 : 28;
 }
 
+/* Merges one of 01's examples and asks for its length, then a refused target and a refused patch. */
+static int check_merge(void) {
+  const uint8_t *target = (const uint8_t *)"[1,2]", *patch = (const uint8_t *)"{\"a\":\"b\",\"c\":null}";
+  const uint8_t *twice = (const uint8_t *)"{\"a\":1,\"\\u0061\":2}";
+  uint32_t table[NIB_WORDS_PER_BYTE * 18], patch_table[NIB_WORDS_PER_BYTE * 18];
+  uint8_t out[NIB_CANONICAL_GROWTH * (18 + 18)];
+
+  nib_answer length = nib_merge(target, 5, table, 20, patch, 18, patch_table, 72, NULL, 0);
+  if (length.number != NIB_OUTPUT_TOO_SHORT || length.input != 3 || length.place != 9 || length.count != 0) return 31;
+  if (table[3] != 3 || patch_table[3] != 3) return 32;
+
+  out[9] = '#';
+  nib_answer merged = nib_merge(target, 5, table, 20, patch, 18, patch_table, 72, out, sizeof out);
+  if (merged.number != NIB_ACCEPTED || merged.input != 0 || merged.place != 0 || merged.count != 9) return 33;
+  if (memcmp(out, "{\"a\":\"b\"}#", 10) != 0) return 34;
+
+  nib_answer refused = nib_merge(target, 5, table, 20, twice, 18, patch_table, 72, out, sizeof out);
+  if (refused.number != NIB_NAME_TWICE || refused.input != 2 || refused.place != 14 || refused.count != 0) return 35;
+  if (table[3] != 3 || patch_table[3] != 0) return 36;
+
+  patch_table[3] = 7;
+  refused = nib_merge(twice, 18, table, 72, twice, 18, patch_table, 72, out, sizeof out);
+  if (refused.number != NIB_NAME_TWICE || refused.input != 1 || refused.place != 14 || refused.count != 0) return 37;
+  if (table[3] != 0 || patch_table[3] != 7) return 38;
+  refused = nib_merge(target, 5, table, 20, patch, 18, patch_table, 71, out, sizeof out);
+  if (refused.number != NIB_TABLE_TOO_SHORT || refused.input != 2 || refused.place != 0) return 39;
+  return memcmp(out, "{\"a\":\"b\"}#", 10) == 0 ? 0 : 40;
+}
+
 int check_header(void) {
   int failed = check_read();
   if (failed == 0) failed = check_write();
-  return failed != 0 ? failed : check_find();
+  if (failed == 0) failed = check_find();
+  return failed != 0 ? failed : check_merge();
 }
