@@ -54,8 +54,8 @@ enum {
  * Accepted: number, input and place are 0, and count is the number of records (nib_read), the number of bytes written
  * (nib_write, nib_merge) or the number of the record found (nib_find).
  * Refused: number says why, input is 1 (the text or the target; for 1 to 9), 2 (the patch, for 1 to 9, or the JSON
- * pointer, for 10 and 11) or 3 (the output; for 12 and 13), place says where in that input or how many bytes are needed,
- * and count is 0. A table that is too short is told by the input of its text. */
+ * pointer, for 10 and 11) or 3 (the output; for 12 and 13), place says where in that input or how many bytes are
+ * needed, and count is 0. A table that is too short is told by the input of its text. */
 typedef struct {
   uint32_t number, input, place, count;
 } nib_answer;

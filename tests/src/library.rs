@@ -29,6 +29,18 @@ extern "C" {
         pointer: *const u8,
         pointer_len: usize,
     ) -> Part;
+    fn nib_merge(
+        target: *const u8,
+        target_len: usize,
+        target_table: *mut u32,
+        target_words: usize,
+        patch: *const u8,
+        patch_len: usize,
+        patch_table: *mut u32,
+        patch_words: usize,
+        out: *mut u8,
+        out_len: usize,
+    ) -> Answer;
 }
 
 pub fn read(text: &[u8], table: &mut [u32]) -> Answer {
@@ -81,4 +93,37 @@ pub fn find_in_nothing(pointer: &[u8]) -> (Answer, Part) {
         let answer = nib_find(text, 0, table, 0, pointer.as_ptr(), pointer.len());
         (answer, nib_part_of(text, 0, table, 0, pointer.as_ptr(), pointer.len()))
     }
+}
+
+/// Target and patch, each with its table.
+pub fn merge([target, patch]: [&[u8]; 2], [target_table, patch_table]: [&mut [u32]; 2], out: &mut [u8]) -> Answer {
+    unsafe {
+        nib_merge(
+            target.as_ptr(),
+            target.len(),
+            target_table.as_mut_ptr(),
+            target_table.len(),
+            patch.as_ptr(),
+            patch.len(),
+            patch_table.as_mut_ptr(),
+            patch_table.len(),
+            out.as_mut_ptr(),
+            out.len(),
+        )
+    }
+}
+
+/// A target, and an empty patch, table and output, all as null pointers.
+pub fn merge_nothing(target: &[u8], table: &mut [u32]) -> Answer {
+    let (address, words) = (table.as_mut_ptr(), table.len());
+    let (bytes, none, out) = (std::ptr::null(), std::ptr::null_mut(), std::ptr::null_mut());
+    unsafe { nib_merge(target.as_ptr(), target.len(), address, words, bytes, 0, none, 0, out, 0) }
+}
+
+/// Target and patch with an output of length 0 as a null pointer.
+pub fn merge_nowhere([target, patch]: [&[u8]; 2], [target_table, patch_table]: [&mut [u32]; 2]) -> Answer {
+    let (address, words) = (target_table.as_mut_ptr(), target_table.len());
+    let (of_patch, patch_words) = (patch_table.as_mut_ptr(), patch_table.len());
+    let (text, length, out) = (patch.as_ptr(), patch.len(), std::ptr::null_mut());
+    unsafe { nib_merge(target.as_ptr(), target.len(), address, words, text, length, of_patch, patch_words, out, 0) }
 }

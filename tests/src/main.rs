@@ -11,6 +11,7 @@ mod header;
 mod lent;
 mod library;
 mod members;
+mod merging;
 mod part;
 mod point;
 mod random;
@@ -36,7 +37,8 @@ fn passes(&(name, run): &Test) -> bool {
 }
 
 fn main() -> ExitCode {
-    let tests = [&header::TESTS, &reading::tests()[..], &writing::tests()[..], &finding::tests()[..]].concat();
+    let entries = [reading::tests(), writing::tests(), finding::tests(), merging::tests()];
+    let tests = [&header::TESTS[..], &entries.concat()].concat();
     let passed = tests.iter().filter(|test| passes(test)).count();
     let failed = tests.len() - passed;
     println!("{passed} passed, {failed} failed");

@@ -1,7 +1,7 @@
 //! Generated texts of all kinds: nearly all valid, some with a number over an edge or a name that stands twice.
 
 use crate::random::Random;
-use crate::spell;
+use crate::{reference, spell};
 
 const WHITESPACE: &[u8] = b" \t\n\r";
 
@@ -21,6 +21,16 @@ pub fn text(random: &mut Random, values: usize) -> Vec<u8> {
     let mut growing = Growing { random, out: Vec::new(), values_left: values };
     growing.around(|growing| growing.value(0));
     growing.out
+}
+
+/// A text of that kind that is accepted.
+pub fn accepted(random: &mut Random, values: usize) -> Vec<u8> {
+    loop {
+        let text = text(random, values);
+        if reference::read(&text, &mut vec![0; 4 * text.len()]).number == 0 {
+            return text;
+        }
+    }
 }
 
 impl Growing<'_> {

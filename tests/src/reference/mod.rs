@@ -2,7 +2,8 @@
 //! The reader goes byte by byte, judges numbers and characters by their whole spelling so far, keeps names as sets of
 //! units, and makes the records from the finished tree. The writer goes down the grammar to what the text means, where
 //! no spelling and no order is left, and up again. The look-up goes down the grammar too, and then from the root by maps
-//! of names and lists of elements; it never looks at a table.
+//! of names and lists of elements; it never looks at a table. The merge is RFC 7396's own procedure over what the two texts
+//! mean.
 
 mod canonical;
 mod ceilings;
@@ -12,6 +13,7 @@ mod growth;
 mod lookup;
 mod machine;
 mod meaning;
+mod merge;
 mod number;
 mod parse;
 mod pointer;
@@ -23,6 +25,7 @@ use crate::answer::Answer;
 use crate::part::Part;
 pub use decimal::Decimal;
 pub use meaning::Meaning;
+pub use merge::merge_patch;
 pub use parse::{meaning, tree};
 pub use tree::{Inside, Tree};
 
@@ -98,4 +101,31 @@ pub fn look_up(root: &Tree, pointer: &[u8]) -> (Answer, Part) {
         Ok(found) => (Answer::accepted(found.record), Part { start: found.start, end: found.end }),
         Err(lost) => (Answer::refused(lost.number, SECOND_INPUT, lost.place), Part::EMPTY),
     }
+}
+
+/// 01 "The answer and its numbers" (all of the target, then all of the patch, 13, 12) and "Merge patch".
+pub fn merge(texts: [&[u8]; 2], tables: [&mut [u32]; 2], out: &mut [u8]) -> Answer {
+    let reading = read_both(texts, tables);
+    match reading.number {
+        0 => put(&merged(texts), out),
+        _ => reading,
+    }
+}
+
+/// The refusal of the target, or else the reading of the patch, whose table isn't touched when the target is refused.
+pub fn read_both([target, patch]: [&[u8]; 2], [target_table, patch_table]: [&mut [u32]; 2]) -> Answer {
+    let reading = read(target, target_table);
+    if reading.number != 0 {
+        return reading;
+    }
+    let reading = read(patch, patch_table);
+    match reading.number {
+        0 => reading,
+        _ => Answer { input: SECOND_INPUT, ..reading },
+    }
+}
+
+/// The canonical text of an accepted target as an accepted patch changes it.
+pub fn merged([target, patch]: [&[u8]; 2]) -> Vec<u8> {
+    canonical::canonical(&merge_patch(Some(meaning(target)), &meaning(patch))).into_bytes()
 }

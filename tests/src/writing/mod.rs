@@ -1,6 +1,6 @@
 //! The tests of nib_write, one file for each kind of text.
 
-mod change;
+pub mod change;
 mod compare;
 mod decided;
 mod depth;
@@ -9,7 +9,7 @@ mod fences;
 mod generated;
 mod longest;
 mod meanings;
-mod names;
+pub mod names;
 mod numbers;
 mod objects;
 mod outputs;

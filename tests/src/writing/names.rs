@@ -13,7 +13,8 @@ pub const TESTS: [Test; 5] = [
     ("objects of up to 40 members in orders by chance", by_chance),
 ];
 
-const SETS: [[&str; 6]; 7] = [
+/// Names that are told apart in ways of one kind.
+pub const SETS: [[&str; 6]; 7] = [
     ["", "a", "aa", "aaa", "ab", "b"],
     ["B", "a", "A", "b", "_", "1"],
     [r"\n", " ", r"\u001f", "!", r"\t", r"\u0000"],
@@ -23,8 +24,14 @@ const SETS: [[&str; 6]; 7] = [
     ["abcdefgh", "abcdefgi", "abcdefg", "abcdefghi", r"abcdefg\u0068 ", "abcdefgh!"],
 ];
 
+/// Units at the edges of what is plain, what is escaped and what is a byte.
+pub const UNITS: [u16; 25] = [
+    0x00, 0x09, 0x0A, 0x1F, 0x20, 0x22, 0x2F, 0x41, 0x5B, 0x5C, 0x5D, 0x61, 0x75, 0x7E, 0x7F, 0x80, 0xFF, 0x100, 0x161,
+    0x6100, 0xD7FF, 0xD800, 0xDFFF, 0xE000, 0xFFFF,
+];
+
 /// All orders of the items (Heap's way).
-fn permute(items: &mut [&str], length: usize, visit: &mut impl FnMut(&[&str])) {
+pub fn permute(items: &mut [&str], length: usize, visit: &mut impl FnMut(&[&str])) {
     if length <= 1 {
         return visit(items);
     }
@@ -47,9 +54,7 @@ fn orders(group: &mut Group) {
 }
 
 fn pairs(group: &mut Group) {
-    let units = [0x00, 0x09, 0x0A, 0x1F, 0x20, 0x22, 0x2F, 0x41, 0x5B, 0x5C, 0x5D, 0x61, 0x75, 0x7E, 0x7F, 0x80];
-    let high = [0xFF, 0x100, 0x161, 0x6100, 0xD7FF, 0xD800, 0xDFFF, 0xE000, 0xFFFF];
-    let names: Vec<String> = units.iter().chain(&high).flat_map(|&unit| spell::spellings(unit)).collect();
+    let names: Vec<String> = UNITS.iter().flat_map(|&unit| spell::spellings(unit)).collect();
     for one in &names {
         for two in &names {
             group.write(format!("{{\"{one}\":1,\"{two}\":2}}").as_bytes());

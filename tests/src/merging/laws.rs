@@ -1,0 +1,111 @@
+//! Laws of merging. Here the library is compared with itself alone.
+
+use super::compare::merged;
+use super::pairs::{object, patch_for, scarce};
+use crate::group::{shown, Group, Test};
+use crate::library;
+use crate::random::Random;
+use crate::reference::Meaning;
+use crate::respell::respelled;
+
+pub const TESTS: [Test; 6] = [
+    ("an empty patch gives the canonical text of an object", empty_patch),
+    ("a patch that is no object gives its canonical text", no_object),
+    ("merging twice gives the same as once", twice),
+    ("replicas with texts of the same meaning write the same bytes", replicas),
+    ("the result is read, and written as it stands", as_it_stands),
+    ("a patch that names each member alone, in any order", one_by_one),
+];
+
+/// What the library writes for a text, if it accepts it.
+fn written(text: &[u8]) -> Option<Vec<u8>> {
+    let (mut table, mut out) = (vec![0; 4 * text.len()], vec![0; 6 * text.len()]);
+    let answer = library::write(text, &mut table, &mut out);
+    out.truncate(answer.count as usize);
+    (answer.number == 0).then_some(out)
+}
+
+/// A target and a patch for it, spelled by chance.
+fn pair(random: &mut Random, depth: usize) -> [String; 2] {
+    let target = object(random, depth);
+    let patch = patch_for(&target, random);
+    [respelled(&target, random), respelled(&patch, random)]
+}
+
+fn tell(target: &str, patch: &str) -> String {
+    format!("{} with {}", shown(target.as_bytes()), shown(patch.as_bytes()))
+}
+
+fn empty_patch(group: &mut Group) {
+    let mut random = Random::new(97);
+    for round in 0..8000 {
+        let target = respelled(&object(&mut random, 1 + round % 6), &mut random);
+        let patch = random.pick(&["{}", " { } ", "{\n}"]);
+        let (result, canonical) = (merged(&target, patch), written(target.as_bytes()));
+        group.judge(result.is_some() && result == canonical, || tell(&target, patch));
+    }
+}
+
+fn no_object(group: &mut Group) {
+    let mut random = Random::new(98);
+    for round in 0..8000 {
+        let target = respelled(&scarce(&mut random, 1 + round % 5), &mut random);
+        let elements = (0..round % 4).map(|_| scarce(&mut random, 2)).collect();
+        let patch = if round % 3 == 0 { scarce(&mut random, 0) } else { Meaning::Array(elements) };
+        let patch = respelled(&patch, &mut random);
+        let (result, canonical) = (merged(&target, &patch), written(patch.as_bytes()));
+        group.judge(result.is_some() && result == canonical, || tell(&target, &patch));
+    }
+}
+
+fn twice(group: &mut Group) {
+    let mut random = Random::new(99);
+    for round in 0..8000 {
+        let [target, patch] = pair(&mut random, 1 + round % 6);
+        let once = merged(&target, &patch);
+        let again = once.as_ref().and_then(|once| merged(once, &patch));
+        group.judge(once.is_some() && again == once, || tell(&target, &patch));
+    }
+}
+
+fn replicas(group: &mut Group) {
+    let mut random = Random::new(100);
+    for round in 0..8000 {
+        let target = object(&mut random, 1 + round % 6);
+        let patch = patch_for(&target, &mut random);
+        let mut replica = || merged(respelled(&target, &mut random), respelled(&patch, &mut random));
+        let (one, two, three) = (replica(), replica(), replica());
+        group.judge(one.is_some() && one == two && two == three, || {
+            tell(&respelled(&target, &mut random), &respelled(&patch, &mut random))
+        });
+    }
+}
+
+fn as_it_stands(group: &mut Group) {
+    let mut random = Random::new(101);
+    for round in 0..8000 {
+        let [target, patch] = pair(&mut random, 1 + round % 6);
+        let result = merged(&target, &patch);
+        let again = result.as_ref().and_then(|result| written(result));
+        group.judge(result.is_some() && again == result, || tell(&target, &patch));
+    }
+}
+
+/// Members are independent of each other: a patch may be cut into patches of one member each.
+fn one_by_one(group: &mut Group) {
+    let mut random = Random::new(102);
+    for round in 0..4000 {
+        let target = object(&mut random, 1 + round % 5);
+        let patch = patch_for(&target, &mut random);
+        let Meaning::Object(changes) = &patch else { continue };
+        let mut singles: Vec<Meaning> =
+            changes.iter().map(|(name, value)| Meaning::Object([(name.clone(), value.clone())].into())).collect();
+        random.shuffle(&mut singles);
+        let (target, patch) = (respelled(&target, &mut random), respelled(&patch, &mut random));
+        let mut result = merged(&target, "{}");
+        for single in &singles {
+            result = result.and_then(|text| merged(text, respelled(single, &mut random)));
+        }
+        group.judge(result.is_some() && result == merged(&target, &patch), || tell(&target, &patch));
+    }
+}
