@@ -39,11 +39,11 @@ const CROWDED: [[&str; 2]; 4] = [
 
 /// Equal down to a depth, where the patch has another name, another kind or nothing.
 fn parting(group: &mut Group) {
-    for levels in [1, 2, 3, 30, 62, 63, 64] {
+    for levels in [1, 2, 3, 20, 64] {
         for around in CROWDED {
             let levels = if around == CROWDED[1] { levels.min(63) } else { levels };
             let target = nest(levels, around, "1.0");
-            for depth in 0..=levels.min(63) {
+            for depth in (0..=levels.min(63)).filter(|depth| levels < 64 || depth % 7 == 0) {
                 for end in ["null", "2", r#"{"n":{}}"#, r#"{"c":null}"#, "{}", r#"{"a":null,"b":{"c":null}}"#] {
                     let patch = nest(depth, CROWDED[depth % 4], end);
                     group.merge_exactly(&target, patch);
@@ -82,7 +82,7 @@ fn wrapped(inner: &str, random: &mut Random) -> String {
 
 fn mixed(group: &mut Group) {
     let mut random = Random::new(91);
-    for round in 0..1200 {
+    for round in 0..600 {
         let mut texts = ["1e-3", "null"].map(String::from);
         for (at, text) in texts.iter_mut().enumerate() {
             for _ in 0..[2, 3, 5, 20, 60, 61, 62, 63][(round / [1, 8][at]) % 8] {

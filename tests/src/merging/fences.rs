@@ -77,8 +77,8 @@ fn needed(texts: [&[u8]; 2]) -> usize {
 fn beside_fences(group: &mut Group) {
     let mut random = Random::new(106);
     let mut fences = Fences::new();
-    for round in 0..3000 {
-        let target = object(&mut random, 1 + round % 5);
+    for round in 0..1200 {
+        let target = object(&mut random, 1 + round % 4);
         let patch = patch_for(&target, &mut random);
         let [mut target, mut patch] = [target, patch].map(|meaning| respelled(&meaning, &mut random).into_bytes());
         match round % 8 {

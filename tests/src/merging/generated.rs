@@ -17,16 +17,16 @@ pub const TESTS: [Test; 5] = [
 
 fn few_names(group: &mut Group) {
     let mut random = Random::new(92);
-    for round in 0..30_000 {
-        let (target, patch) = (scarce(&mut random, 1 + round % 5), object(&mut random, 1 + round % 4));
+    for round in 0..20_000 {
+        let (target, patch) = (scarce(&mut random, 1 + round % 4), object(&mut random, 1 + round % 3));
         group.merge(respelled(&target, &mut random), respelled(&patch, &mut random));
     }
 }
 
 fn related(group: &mut Group) {
     let mut random = Random::new(93);
-    for round in 0..30_000 {
-        let target = object(&mut random, 1 + round % 6);
+    for round in 0..20_000 {
+        let target = object(&mut random, 1 + round % 4);
         let patch = patch_for(&target, &mut random);
         group.merge(respelled(&target, &mut random), respelled(&patch, &mut random));
     }
@@ -34,8 +34,8 @@ fn related(group: &mut Group) {
 
 fn of_all_kinds(group: &mut Group) {
     let mut random = Random::new(94);
-    for round in 0..6000 {
-        let text = texts::accepted(&mut random, 1 + round % 60);
+    for round in 0..3000 {
+        let text = texts::accepted(&mut random, 1 + round % 40);
         let patch = patch_for(&reference::meaning(&text), &mut random);
         group.merge(&text, respelled(&patch, &mut random));
         group.merge(&text, texts::text(&mut random, 1 + round % 20));
@@ -44,8 +44,8 @@ fn of_all_kinds(group: &mut Group) {
 
 fn themselves(group: &mut Group) {
     let mut random = Random::new(95);
-    for round in 0..6000 {
-        let text = texts::accepted(&mut random, 1 + round % 40);
+    for round in 0..3000 {
+        let text = texts::accepted(&mut random, 1 + round % 20);
         let mut other = reference::meaning(&text);
         for _ in 0..round % 5 {
             other = changed(&other, &mut random);
@@ -61,7 +61,7 @@ fn again(group: &mut Group) {
     let (mut expected_words, mut expected_out) = ([vec![3; 20_000], vec![5; 20_000]], vec![b'#'; 4000]);
     let (mut words, mut out) = (expected_words.clone(), expected_out.clone());
     for round in 0..6000 {
-        let target = object(&mut random, 1 + round % 6);
+        let target = object(&mut random, 1 + round % 4);
         let patch = patch_for(&target, &mut random);
         let texts = [target, patch].map(|meaning| respelled(&meaning, &mut random).into_bytes());
         let texts = [&texts[0][..], &texts[1]];

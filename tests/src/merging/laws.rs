@@ -38,8 +38,8 @@ fn tell(target: &str, patch: &str) -> String {
 
 fn empty_patch(group: &mut Group) {
     let mut random = Random::new(97);
-    for round in 0..8000 {
-        let target = respelled(&object(&mut random, 1 + round % 6), &mut random);
+    for round in 0..5000 {
+        let target = respelled(&object(&mut random, 1 + round % 4), &mut random);
         let patch = random.pick(&["{}", " { } ", "{\n}"]);
         let (result, canonical) = (merged(&target, patch), written(target.as_bytes()));
         group.judge(result.is_some() && result == canonical, || tell(&target, patch));
@@ -48,8 +48,8 @@ fn empty_patch(group: &mut Group) {
 
 fn no_object(group: &mut Group) {
     let mut random = Random::new(98);
-    for round in 0..8000 {
-        let target = respelled(&scarce(&mut random, 1 + round % 5), &mut random);
+    for round in 0..5000 {
+        let target = respelled(&scarce(&mut random, 1 + round % 4), &mut random);
         let elements = (0..round % 4).map(|_| scarce(&mut random, 2)).collect();
         let patch = if round % 3 == 0 { scarce(&mut random, 0) } else { Meaning::Array(elements) };
         let patch = respelled(&patch, &mut random);
@@ -60,8 +60,8 @@ fn no_object(group: &mut Group) {
 
 fn twice(group: &mut Group) {
     let mut random = Random::new(99);
-    for round in 0..8000 {
-        let [target, patch] = pair(&mut random, 1 + round % 6);
+    for round in 0..5000 {
+        let [target, patch] = pair(&mut random, 1 + round % 4);
         let once = merged(&target, &patch);
         let again = once.as_ref().and_then(|once| merged(once, &patch));
         group.judge(once.is_some() && again == once, || tell(&target, &patch));
@@ -70,8 +70,8 @@ fn twice(group: &mut Group) {
 
 fn replicas(group: &mut Group) {
     let mut random = Random::new(100);
-    for round in 0..8000 {
-        let target = object(&mut random, 1 + round % 6);
+    for round in 0..5000 {
+        let target = object(&mut random, 1 + round % 4);
         let patch = patch_for(&target, &mut random);
         let mut replica = || merged(respelled(&target, &mut random), respelled(&patch, &mut random));
         let (one, two, three) = (replica(), replica(), replica());
@@ -83,8 +83,8 @@ fn replicas(group: &mut Group) {
 
 fn as_it_stands(group: &mut Group) {
     let mut random = Random::new(101);
-    for round in 0..8000 {
-        let [target, patch] = pair(&mut random, 1 + round % 6);
+    for round in 0..5000 {
+        let [target, patch] = pair(&mut random, 1 + round % 4);
         let result = merged(&target, &patch);
         let again = result.as_ref().and_then(|result| written(result));
         group.judge(result.is_some() && again == result, || tell(&target, &patch));
@@ -94,8 +94,8 @@ fn as_it_stands(group: &mut Group) {
 /// Members are independent of each other: a patch may be cut into patches of one member each.
 fn one_by_one(group: &mut Group) {
     let mut random = Random::new(102);
-    for round in 0..4000 {
-        let target = object(&mut random, 1 + round % 5);
+    for round in 0..2500 {
+        let target = object(&mut random, 1 + round % 4);
         let patch = patch_for(&target, &mut random);
         let Meaning::Object(changes) = &patch else { continue };
         let mut singles: Vec<Meaning> =

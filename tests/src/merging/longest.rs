@@ -45,13 +45,8 @@ fn around(group: &mut Group) {
 fn first(group: &mut Group) {
     for (length, number) in [(LONGEST, 12), (LONGEST + 1, 13), (2 * LONGEST, 13)] {
         let texts = pair(length, 100_000);
-        for room in [0, LONGEST - 1] {
-            group.merge_refused(bytes(&texts), room, Answer::refused(number, 3, length));
-        }
-    }
-    let texts = pair(LONGEST + 1, 100_000);
-    for room in [LONGEST, LONGEST + 1, 2 * LONGEST] {
-        group.merge_refused(bytes(&texts), room, Answer::refused(13, 3, LONGEST + 1));
+        group.merge_refused(bytes(&texts), 0, Answer::refused(number, 3, length));
+        group.merge_each(bytes(&texts), least(bytes(&texts)), |_| vec![LONGEST - 1, LONGEST, length, 2 * LONGEST]);
     }
 }
 
@@ -61,22 +56,21 @@ fn of_all(group: &mut Group) {
     let (one, two) = (member("b", 0, growing), member("a", 0, growing));
     let needed = 12 * growing + r#"{"a":"","b":""}"#.len();
     group.merge_refused([one.as_bytes(), two.as_bytes()], needed, Answer::refused(13, 3, needed));
-    group.merge_refused([one.as_bytes(), b"{}"], 0, Answer::refused(13, 3, 6 * growing + 8));
-    group.merge_refused([b"[]", two.as_bytes()], LONGEST, Answer::refused(13, 3, 6 * growing + 8));
+    group.merge_each([one.as_bytes(), b"{}"], [4 * LONGEST, 8], |_| vec![0, LONGEST, 6 * growing + 8]);
+    group.merge_each([b"[]", two.as_bytes()], [8, 4 * LONGEST], |_| vec![0, LONGEST, 6 * growing + 8]);
 }
 
 /// What is removed or replaced doesn't count to the length.
 fn little_left(group: &mut Group) {
     let growing = LONGEST - r#"{"a":""}"#.len();
     let long = member("a", 0, growing);
-    for patch in [r#"{"\u0061":null}"#, r#"{"a":{"b":null}}"#, r#"{"a":[null],"b":{}}"#, "1"] {
+    for patch in [r#"{"\u0061":null}"#, r#"{"a":[null],"b":{}}"#] {
         group.merge(&long, patch);
     }
     let nulls =
-        format!("{{{}\"z\":null}}", (0..80_000).map(|number| format!("\"{number}\":null,")).collect::<String>());
-    group.merge(&nulls, &nulls);
-    group.merge("{}", &nulls);
-    group.merge(&nulls, "{}");
+        format!("{{{}\"z\":null}}", (0..40_000).map(|number| format!("\"{number}\":null,")).collect::<String>());
+    group.merge_exactly(&nulls, &nulls);
+    group.merge_exactly("{}", &nulls);
 }
 
 /// Both lengths are judged before anything is written, the target's first, and each before its table.

@@ -40,8 +40,8 @@ fn every_length(group: &mut Group) {
 
 fn by_chance(group: &mut Group) {
     let mut random = Random::new(103);
-    for round in 0..4000 {
-        let target = object(&mut random, 1 + round % 5);
+    for round in 0..3000 {
+        let target = object(&mut random, 1 + round % 4);
         let patch = patch_for(&target, &mut random);
         let texts = [target, patch].map(|meaning| respelled(&meaning, &mut random).into_bytes());
         let texts = [&texts[0][..], &texts[1]];

@@ -85,7 +85,7 @@ fn cut(group: &mut Group) {
 fn damaged(group: &mut Group) {
     let mut random = Random::new(105);
     let damages: [Damage; 4] = [damage::delete, damage::insert, damage::replace, damage::double];
-    for round in 0..16_000 {
+    for round in 0..10_000 {
         let [mut target, mut patch] = pair(&mut random, 1 + round % 4);
         if round % 3 != 0 {
             damages[round % 4](&mut patch, &mut random);

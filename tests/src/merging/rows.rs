@@ -34,7 +34,7 @@ fn sheet(numbers: &[usize], mut one: impl FnMut() -> String) -> String {
 
 fn cells(group: &mut Group) {
     let mut random = Random::new(88);
-    for rows in [1, 3, 9, 20] {
+    for rows in [1, 3, 10] {
         for numbers in ordered(&mut random, rows) {
             let target = sheet(&numbers, || row(&mut random, 9, &VALUES));
             for number in 0..=rows {
@@ -72,7 +72,7 @@ fn many(group: &mut Group) {
 /// The result of each edit is the target of the next.
 fn one_after_another(group: &mut Group) {
     let mut random = Random::new(90);
-    for rows in 1..=30 {
+    for rows in 1..=20 {
         let numbers: Vec<usize> = (0..rows).collect();
         let mut target = sheet(&numbers, || row(&mut random, 6, &VALUES)).into_bytes();
         for _ in 0..40 {
