@@ -67,13 +67,12 @@ fn into_one(group: &mut Group) {
     }
 }
 
-/// Some 40,000 members on either side: all shared, none shared, and all removed.
+/// Some 66,000 members on either side, of which all are shared and most are removed; then half on each side.
 fn largest(group: &mut Group) {
     let mut random = Random::new(87);
-    let [sorted, reversed, shuffled, in_turns] = ordered(&mut random, 40_000);
+    let [_, _, shuffled, in_turns] = ordered(&mut random, 66_000);
     let named = |numbers: &[usize]| numbered(&numbers.iter().map(|&number| plain(number)).collect::<Vec<String>>());
     group.merge_exactly(named(&shuffled), object(&in_turns, plain, |number| number % 3 > 0));
-    group.merge_exactly(named(&sorted), object(&reversed, plain, |_| true));
     let (even, odd): (Vec<usize>, Vec<usize>) = shuffled.into_iter().partition(|number| number % 2 == 0);
     group.merge_exactly(named(&even), named(&odd));
 }

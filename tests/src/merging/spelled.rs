@@ -4,10 +4,11 @@ use crate::group::{Group, Test};
 use crate::random::Random;
 use crate::spell;
 
-pub const TESTS: [Test; 3] = [
+pub const TESTS: [Test; 4] = [
     ("names of every length that differ in one place, across target and patch", one_place),
     ("names that differ behind equal beginnings, across target and patch", beginnings),
     ("names with a spelling at every place, across target and patch", spellings),
+    ("very long names that differ at their ends, across target and patch", very_long),
 ];
 
 const LONGEST: usize = 34;
@@ -69,6 +70,16 @@ fn spellings(group: &mut Group) {
                     }
                 }
             }
+        }
+    }
+}
+
+fn very_long(group: &mut Group) {
+    for length in [127, 128, 255, 256, 257, 1000, 4095, 4096, 4097, 65_535, 65_536, 65_537] {
+        let name = |end: &str| format!("\"{}{end}\"", "n".repeat(length));
+        for [one, two] in [["a", "b"], ["b", "\\u0061"], ["", "a"], ["a", ""], ["a", "\\u0061"]] {
+            group.merge(format!("{{{}:1}}", name(one)), format!("{{{}:null}}", name(two)));
+            group.merge(format!("{{{}:{{\"k\":1}}}}", name(one)), format!("{{{}:{{\"l\":2}}}}", name(two)));
         }
     }
 }
