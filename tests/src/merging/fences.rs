@@ -1,11 +1,10 @@
 //! Texts, tables and outputs right beside memory that mustn't be touched, and texts in memory that can't be written.
 
 use super::compare::least;
-use super::pairs::{object, patch_for};
+use super::pairs::pair;
 use crate::fence::{Fenced, Side};
 use crate::group::{shown, Group, Test};
 use crate::random::Random;
-use crate::respell::respelled;
 use crate::{damage, library, reference};
 
 pub const TESTS: [Test; 2] = [
@@ -78,9 +77,7 @@ fn beside_fences(group: &mut Group) {
     let mut random = Random::new(106);
     let mut fences = Fences::new();
     for round in 0..1200 {
-        let target = object(&mut random, 1 + round % 4);
-        let patch = patch_for(&target, &mut random);
-        let [mut target, mut patch] = [target, patch].map(|meaning| respelled(&meaning, &mut random).into_bytes());
+        let [mut target, mut patch] = pair(&mut random, 1 + round % 4).map(String::into_bytes);
         match round % 8 {
             0 => damage::truncate(&mut target, &mut random),
             1 => damage::truncate(&mut patch, &mut random),

@@ -1,6 +1,6 @@
 //! Generated pairs: of few names, of a target and a patch for it, of texts of all kinds, and with slices lent again.
 
-use super::pairs::{object, patch_for, scarce};
+use super::pairs::{object, pair, patch_for, scarce};
 use crate::group::{shown, Group, Test};
 use crate::random::Random;
 use crate::respell::respelled;
@@ -26,9 +26,8 @@ fn few_names(group: &mut Group) {
 fn related(group: &mut Group) {
     let mut random = Random::new(93);
     for round in 0..20_000 {
-        let target = object(&mut random, 1 + round % 4);
-        let patch = patch_for(&target, &mut random);
-        group.merge(respelled(&target, &mut random), respelled(&patch, &mut random));
+        let [target, patch] = pair(&mut random, 1 + round % 4);
+        group.merge(target, patch);
     }
 }
 
@@ -61,10 +60,8 @@ fn again(group: &mut Group) {
     let (mut expected_words, mut expected_out) = ([vec![3; 20_000], vec![5; 20_000]], vec![b'#'; 4000]);
     let (mut words, mut out) = (expected_words.clone(), expected_out.clone());
     for round in 0..6000 {
-        let target = object(&mut random, 1 + round % 4);
-        let patch = patch_for(&target, &mut random);
-        let texts = [target, patch].map(|meaning| respelled(&meaning, &mut random).into_bytes());
-        let texts = [&texts[0][..], &texts[1]];
+        let pair = pair(&mut random, 1 + round % 4);
+        let texts = pair.each_ref().map(|text| text.as_bytes());
         let lengths = texts.map(|text| (4 * text.len() + random.below(9)).saturating_sub(random.below(5)).min(20_000));
         let room = random.below(out.len().min(2 * texts[0].len()) + 1);
         let expected = reference::merge(texts, fronts(&mut expected_words, lengths), &mut expected_out[..room]);

@@ -1,12 +1,12 @@
 //! Laws of merging. Here the library is compared with itself alone.
 
 use super::compare::merged;
-use super::pairs::{object, patch_for, scarce};
+use super::pairs::{object, pair, patch_for, scarce};
 use crate::group::{shown, Group, Test};
-use crate::library;
 use crate::random::Random;
 use crate::reference::Meaning;
 use crate::respell::respelled;
+use crate::writing::compare::written;
 
 pub const TESTS: [Test; 6] = [
     ("an empty patch gives the canonical text of an object", empty_patch),
@@ -16,21 +16,6 @@ pub const TESTS: [Test; 6] = [
     ("the result is read, and written as it stands", as_it_stands),
     ("a patch that names each member alone, in any order", one_by_one),
 ];
-
-/// What the library writes for a text, if it accepts it.
-fn written(text: &[u8]) -> Option<Vec<u8>> {
-    let (mut table, mut out) = (vec![0; 4 * text.len()], vec![0; 6 * text.len()]);
-    let answer = library::write(text, &mut table, &mut out);
-    out.truncate(answer.count as usize);
-    (answer.number == 0).then_some(out)
-}
-
-/// A target and a patch for it, spelled by chance.
-fn pair(random: &mut Random, depth: usize) -> [String; 2] {
-    let target = object(random, depth);
-    let patch = patch_for(&target, random);
-    [respelled(&target, random), respelled(&patch, random)]
-}
 
 fn tell(target: &str, patch: &str) -> String {
     format!("{} with {}", shown(target.as_bytes()), shown(patch.as_bytes()))

@@ -1,10 +1,9 @@
 //! Outputs of every length, and the length that is always enough.
 
 use super::compare::least;
-use super::pairs::{object, patch_for};
+use super::pairs::pair;
 use crate::group::{Group, Test};
 use crate::random::Random;
-use crate::respell::respelled;
 
 pub const TESTS: [Test; 3] = [
     ("outputs of every length, by the merge", every_length),
@@ -41,10 +40,8 @@ fn every_length(group: &mut Group) {
 fn by_chance(group: &mut Group) {
     let mut random = Random::new(103);
     for round in 0..3000 {
-        let target = object(&mut random, 1 + round % 4);
-        let patch = patch_for(&target, &mut random);
-        let texts = [target, patch].map(|meaning| respelled(&meaning, &mut random).into_bytes());
-        let texts = [&texts[0][..], &texts[1]];
+        let pair = pair(&mut random, 1 + round % 4);
+        let texts = pair.each_ref().map(|text| text.as_bytes());
         let share = random.below(100);
         let lengths = |needed: usize| vec![0, 1, needed * share / 100, needed + 1, needed + 1000];
         group.merge_each(texts, least(texts), lengths);

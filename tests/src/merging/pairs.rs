@@ -2,6 +2,7 @@
 
 use crate::random::Random;
 use crate::reference::{Decimal, Meaning};
+use crate::respell::respelled;
 use crate::spell;
 use crate::writing::change::changed;
 use std::collections::BTreeMap;
@@ -47,6 +48,13 @@ pub fn patch_for(target: &Meaning, random: &mut Random) -> Meaning {
         changes.entry(name(random)).or_insert_with(|| scarce(random, 2));
     }
     Meaning::Object(changes)
+}
+
+/// Texts of an object down to this depth and of a patch for it, spelled by chance.
+pub fn pair(random: &mut Random, depth: usize) -> [String; 2] {
+    let target = object(random, depth);
+    let patch = patch_for(&target, random);
+    [target, patch].map(|meaning| respelled(&meaning, random))
 }
 
 /// What becomes of a member, or nothing where the patch doesn't name it.

@@ -2,14 +2,13 @@
 //! output; the output stays, and each table is as the reader leaves it or as it was.
 
 use super::compare::least;
-use super::pairs::{object, patch_for};
+use super::pairs::pair;
 use crate::answer::Answer;
 use crate::damage::{self, Damage};
 use crate::group::{Group, Test};
 use crate::random::Random;
 use crate::reading::examples::REFUSED;
 use crate::reading::tables::VERDICTS;
-use crate::respell::respelled;
 
 pub const TESTS: [Test; 5] = [
     ("pairs of texts of every verdict", every_pair),
@@ -61,17 +60,10 @@ fn examples(group: &mut Group) {
     }
 }
 
-/// A generated target and a patch for it, as bytes.
-fn pair(random: &mut Random, depth: usize) -> [Vec<u8>; 2] {
-    let target = object(random, depth);
-    let patch = patch_for(&target, random);
-    [target, patch].map(|meaning| respelled(&meaning, random).into_bytes())
-}
-
 fn cut(group: &mut Group) {
     let mut random = Random::new(104);
     for round in 0..150 {
-        let [target, patch] = pair(&mut random, 1 + round % 4);
+        let [target, patch] = pair(&mut random, 1 + round % 4).map(String::into_bytes);
         for place in 0..target.len() {
             let whole = if round % 2 == 0 { &patch } else { &patch[..patch.len() / 2] };
             group.merge_exactly(&target[..place], whole);
@@ -86,7 +78,7 @@ fn damaged(group: &mut Group) {
     let mut random = Random::new(105);
     let damages: [Damage; 4] = [damage::delete, damage::insert, damage::replace, damage::double];
     for round in 0..10_000 {
-        let [mut target, mut patch] = pair(&mut random, 1 + round % 4);
+        let [mut target, mut patch] = pair(&mut random, 1 + round % 4).map(String::into_bytes);
         if round % 3 != 0 {
             damages[round % 4](&mut patch, &mut random);
         }

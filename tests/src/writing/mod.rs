@@ -1,7 +1,7 @@
 //! The tests of nib_write, one file for each kind of text.
 
 pub mod change;
-mod compare;
+pub mod compare;
 mod decided;
 mod depth;
 mod examples;
