@@ -1,6 +1,5 @@
 //! What is timed: an entry of the library beside its peers, on texts, with goals for its speed.
 
-use crate::padded::Padded;
 use crate::texts::Text;
 
 pub const LONGEST: usize = 1 << 20;
@@ -8,20 +7,25 @@ pub const LONGEST: usize = 1 << 20;
 /// What is lent to the library alone, again and again without being cleared.
 pub struct Lent {
     pub table: Vec<u32>,
+    pub patch_table: Vec<u32>,
     pub out: Vec<u8>,
 }
 
 impl Lent {
     pub fn for_texts(texts: &[Text]) -> Lent {
-        let longest = texts.iter().map(|text| text.padded.len()).max().unwrap_or(0);
-        Lent { table: vec![1; 4 * longest], out: vec![1; LONGEST] }
+        let table = |lengths: &mut dyn Iterator<Item = usize>| vec![1; 4 * lengths.max().unwrap_or(0)];
+        Lent {
+            table: table(&mut texts.iter().map(|text| text.padded.len())),
+            patch_table: table(&mut texts.iter().map(|text| text.patch.len())),
+            out: vec![1; LONGEST],
+        }
     }
 }
 
 pub struct Contestant {
     pub name: &'static str,
     /// Does its work on the text, gives back what it allocated, and tells whether it accepts the text.
-    pub accepts: fn(&Padded, &mut Lent) -> bool,
+    pub accepts: fn(&Text, &mut Lent) -> bool,
 }
 
 /// A text, a contestant, and the multiple of its speed that the library must reach.

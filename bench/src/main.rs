@@ -9,6 +9,7 @@ mod goals;
 #[path = "../../tests/src/library.rs"]
 mod library;
 mod measure;
+mod merging;
 mod padded;
 #[allow(dead_code)]
 #[path = "../../tests/src/part.rs"]
@@ -23,7 +24,7 @@ mod writing;
 
 use entry::Entry;
 
-const ENTRIES: [Entry; 2] = [reading::ENTRY, writing::ENTRY];
+const ENTRIES: [Entry; 3] = [reading::ENTRY, writing::ENTRY, merging::ENTRY];
 const SIZES: [usize; 3] = [64 << 10, 256 << 10, entry::LONGEST];
 
 fn run(entry: &Entry, rounds: usize) {

@@ -14,20 +14,29 @@ extern "C" {
 pub const ENTRY: Entry = Entry { contestants: &CONTESTANTS, ratios: &RATIOS, texts: texts::to_read, longest: Vec::new };
 
 const CONTESTANTS: [Contestant; 6] = [
-    Contestant { name: "nib_read", accepts: |padded, lent| library::read(padded.text(), &mut lent.table).number == 0 },
+    Contestant {
+        name: "nib_read",
+        accepts: |text, lent| library::read(text.padded.text(), &mut lent.table).number == 0,
+    },
     Contestant {
         name: "serde_json IgnoredAny",
-        accepts: |padded, _| serde_json::from_slice::<IgnoredAny>(padded.text()).is_ok(),
+        accepts: |text, _| serde_json::from_slice::<IgnoredAny>(text.padded.text()).is_ok(),
     },
     Contestant {
         name: "serde_json Value",
-        accepts: |padded, _| serde_json::from_slice::<Value>(padded.text()).is_ok(),
+        accepts: |text, _| serde_json::from_slice::<Value>(text.padded.text()).is_ok(),
     },
-    Contestant { name: "simdjson DOM", accepts: |padded, _| unsafe { peer_simdjson(padded.start(), padded.len()) } },
-    Contestant { name: "rapidjson SAX", accepts: |padded, _| unsafe { peer_rapidjson(padded.start(), padded.len()) } },
+    Contestant {
+        name: "simdjson DOM",
+        accepts: |text, _| unsafe { peer_simdjson(text.padded.start(), text.padded.len()) },
+    },
+    Contestant {
+        name: "rapidjson SAX",
+        accepts: |text, _| unsafe { peer_rapidjson(text.padded.start(), text.padded.len()) },
+    },
     Contestant {
         name: "jansson, no repeats",
-        accepts: |padded, _| unsafe { peer_jansson(padded.start(), padded.len()) },
+        accepts: |text, _| unsafe { peer_jansson(text.padded.start(), text.padded.len()) },
     },
 ];
 

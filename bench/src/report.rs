@@ -24,7 +24,7 @@ pub fn speeds(entry: &Entry, texts: &[Text], speeds: &[Vec<Best>]) {
             let star = if best.is_accepted == bests[0].is_accepted { "" } else { "*" };
             format!("{:.0}{star}", 1000.0 / best.nanoseconds_per_byte(text))
         };
-        row(text.name, std::iter::once(text.padded.len().to_string()).chain(bests.iter().map(cell)));
+        row(text.name, std::iter::once(text.bytes().to_string()).chain(bests.iter().map(cell)));
     }
 }
 

@@ -15,22 +15,22 @@ pub const ENTRY: Entry =
 const CONTESTANTS: [Contestant; 4] = [
     Contestant {
         name: "nib_write",
-        accepts: |padded, lent| library::write(padded.text(), &mut lent.table, &mut lent.out).number == 0,
+        accepts: |text, lent| library::write(text.padded.text(), &mut lent.table, &mut lent.out).number == 0,
     },
     Contestant {
         name: "serde_json Value",
-        accepts: |padded, _| {
-            let value = serde_json::from_slice::<Value>(padded.text());
+        accepts: |text, _| {
+            let value = serde_json::from_slice::<Value>(text.padded.text());
             value.is_ok_and(|value| serde_json::to_vec(&value).is_ok_and(|bytes| !bytes.is_empty()))
         },
     },
     Contestant {
         name: "nlohmann::json",
-        accepts: |padded, _| unsafe { peer_nlohmann_write(padded.start(), padded.len()) },
+        accepts: |text, _| unsafe { peer_nlohmann_write(text.padded.start(), text.padded.len()) },
     },
     Contestant {
         name: "jansson, no repeats",
-        accepts: |padded, _| unsafe { peer_jansson_write(padded.start(), padded.len()) },
+        accepts: |text, _| unsafe { peer_jansson_write(text.padded.start(), text.padded.len()) },
     },
 ];
 

@@ -1,5 +1,6 @@
 //! The texts: of many kinds, within the house ceilings, the same in every run, as long as fits a size.
 
+mod edits;
 mod names;
 mod sheet;
 mod values;
@@ -12,7 +13,20 @@ use crate::padded::Padded;
 pub struct Text {
     pub name: &'static str,
     pub padded: Padded,
+    /// What is merged into it, or nothing where it is only read or written.
+    pub patch: Padded,
     pub is_accepted: bool,
+}
+
+impl Text {
+    fn alone(name: &'static str, text: String, is_accepted: bool) -> Text {
+        Text { name, padded: Padded::new(text), patch: Padded::new(String::new()), is_accepted }
+    }
+
+    /// How many bytes are read.
+    pub fn bytes(&self) -> usize {
+        self.padded.len() + self.patch.len()
+    }
 }
 
 /// A kind of text makes one of at most so many bytes.
@@ -45,7 +59,7 @@ const REFUSED: [Kind; 3] = [
 
 /// A text of each kind, made by a way to make one of at most so many bytes.
 fn each(make: impl Fn(fn(usize) -> String) -> String) -> Vec<Text> {
-    let text = |&(name, kind): &Kind, is_accepted| Text { name, padded: Padded::new(make(kind)), is_accepted };
+    let text = |&(name, kind): &Kind, is_accepted| Text::alone(name, make(kind), is_accepted);
     let accepted = ACCEPTED.iter().map(|kind| text(kind, true));
     accepted.chain(REFUSED.iter().map(|kind| text(kind, false))).collect()
 }
@@ -73,8 +87,51 @@ fn length_written(text: &str) -> usize {
 
 /// A text that grows by six when it is written, and so is refused for the length of its result.
 pub fn too_long_when_written() -> Vec<Text> {
-    let padded = Padded::new(worst::delete_characters(LONGEST));
-    vec![Text { name: "delete characters, too long when written", padded, is_accepted: false }]
+    vec![Text::alone("delete characters, too long when written", worst::delete_characters(LONGEST), false)]
+}
+
+/// A kind of target, and how a patch is made for it.
+type Pair = (&'static str, fn(usize) -> String, fn(&str) -> String);
+
+const MERGED: [Pair; 9] = [
+    ("one row changed", sheet::compact, edits::one_row),
+    ("half of the rows changed", sheet::compact, edits::half_of_the_rows),
+    ("one row changed in a pretty sheet", sheet::pretty, edits::one_row),
+    ("all rows removed", sheet::compact, edits::all_rows_removed),
+    ("a sheet as its own patch", sheet::compact, str::to_string),
+    ("nested objects, all changed", values::nested_objects, edits::nested_objects),
+    ("random names, half of them changed", names::random, edits::half_of_the_names),
+    ("random names, others added", names::random, edits::other_names),
+    ("objects of sixteen members, replaced", worst::objects_of_sixteen, str::to_string),
+];
+
+const NOT_MERGED: [Pair; 1] =
+    [("half of the rows changed, with a wrong last byte", sheet::compact, edits::wrong_last_byte)];
+
+/// Targets and patches that have at most so many bytes each, and so has the result.
+pub fn to_merge(size: usize) -> Vec<Text> {
+    let accepted = MERGED.iter().map(|pair| merged(pair, size, true));
+    accepted.chain(NOT_MERGED.iter().map(|pair| merged(pair, size, false))).collect()
+}
+
+fn merged(&(name, kind, edit): &Pair, size: usize, is_accepted: bool) -> Text {
+    let mut room = size;
+    loop {
+        let target = kind(room);
+        let patch = edit(&target);
+        let longest = patch.len().max(length_merged(&target, &patch));
+        if longest <= size {
+            return Text { name, padded: Padded::new(target), patch: Padded::new(patch), is_accepted };
+        }
+        room = room * size / longest;
+    }
+}
+
+/// The length of the result, which an empty output is refused with. For a refused pair it is a place in a text.
+fn length_merged(target: &str, patch: &str) -> usize {
+    let texts = [target.as_bytes(), patch.as_bytes()];
+    let [mut table, mut patch_table] = texts.map(|text| vec![0; 4 * text.len()]);
+    library::merge(texts, [&mut table, &mut patch_table], &mut []).place as usize
 }
 
 /// The items that fit, parted by a separator, between what opens and what closes.

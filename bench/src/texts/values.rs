@@ -1,7 +1,7 @@
 //! Arrays of strings, of numbers, of nested containers and of escapes.
 
 use super::sheet::WORDS;
-use super::{fill, ARRAY};
+use super::{fill, ARRAY, OBJECT};
 use crate::random::Random;
 
 /// Strings of a few words, every tenth with escapes at its end.
@@ -34,6 +34,12 @@ pub fn numbers(size: usize) -> String {
 pub fn nested(size: usize) -> String {
     let part = format!("{}{}1{}{}", "[".repeat(31), "{\"a\":".repeat(31), "}".repeat(31), "]".repeat(31));
     fill(size, ARRAY, std::iter::repeat(part))
+}
+
+/// Objects of one member inside each other, over and over, under numbered names.
+pub fn nested_objects(size: usize) -> String {
+    let part = |row: usize| format!(r#""r{row:05}":{{"a":{{"b":{{"c":{{"d":0,"e":1}}}}}}}}"#);
+    fill(size, OBJECT, (0..).map(part))
 }
 
 pub fn escapes(size: usize) -> String {
