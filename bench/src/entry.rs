@@ -13,12 +13,9 @@ pub struct Lent {
 
 impl Lent {
     pub fn for_texts(texts: &[Text]) -> Lent {
-        let table = |lengths: &mut dyn Iterator<Item = usize>| vec![1; 4 * lengths.max().unwrap_or(0)];
-        Lent {
-            table: table(&mut texts.iter().map(|text| text.padded.len())),
-            patch_table: table(&mut texts.iter().map(|text| text.patch.len())),
-            out: vec![1; LONGEST],
-        }
+        let table = |length: fn(&Text) -> usize| vec![1; 4 * texts.iter().map(length).max().unwrap_or(0)];
+        let (table, patch_table) = (table(|text| text.padded.len()), table(|text| text.patch.len()));
+        Lent { table, patch_table, out: vec![1; LONGEST] }
     }
 }
 

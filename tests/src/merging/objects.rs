@@ -1,7 +1,7 @@
 //! Objects of many members in many orders, with patches of many or few.
 
 use crate::group::{Group, Test};
-use crate::members::{numbered, ordered, plain, SPELLINGS};
+use crate::members::{ordered, plain, SPELLINGS};
 use crate::random::Random;
 
 pub const TESTS: [Test; 4] = [
@@ -67,12 +67,14 @@ fn into_one(group: &mut Group) {
     }
 }
 
-/// Some 66,000 members on either side, of which all are shared and most are removed; then half on each side.
+/// Some 66,000 members on one side, and then many on both sides: shared, unshared and removed.
 fn largest(group: &mut Group) {
     let mut random = Random::new(87);
-    let [_, _, shuffled, in_turns] = ordered(&mut random, 66_000);
-    let named = |numbers: &[usize]| numbered(&numbers.iter().map(|&number| plain(number)).collect::<Vec<String>>());
-    group.merge_exactly(named(&shuffled), object(&in_turns, plain, |number| number % 3 > 0));
-    let (even, odd): (Vec<usize>, Vec<usize>) = shuffled.into_iter().partition(|number| number % 2 == 0);
-    group.merge_exactly(named(&even), named(&odd));
+    let [_, _, mut shuffled, mut in_turns] = ordered(&mut random, 66_000);
+    let few = r#"{"065999":[],"030000":{"a":null},"x":null,"":0}"#;
+    group.merge_exactly(object(&shuffled, plain, |_| false), few);
+    group.merge_exactly(few, object(&shuffled, plain, |number| number % 3 == 0));
+    shuffled.retain(|number| number % 3 > 0);
+    in_turns.retain(|number| number % 2 > 0);
+    group.merge_exactly(object(&shuffled, plain, |_| false), object(&in_turns, plain, |number| number % 5 == 0));
 }
