@@ -66,7 +66,7 @@ fn arrays(group: &mut Group) {
     }
 }
 
-/// A value around another one, under a name of two and among siblings.
+/// A value around another one, under one of two names and among siblings.
 fn wrapped(inner: &str, random: &mut Random) -> String {
     let siblings = ["10", "{}", "null", "[null]", r#""\t""#, r#"{"q":0.0,"p":null}"#, r#"{"q":{"r":null}}"#];
     let mut names = ["d", "b", "ab", "\\u0041", "", "~", "c", "e", "f"];

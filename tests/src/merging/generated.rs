@@ -17,7 +17,7 @@ pub const TESTS: [Test; 5] = [
 
 fn few_names(group: &mut Group) {
     let mut random = Random::new(92);
-    for round in 0..20_000 {
+    for round in 0..12_000 {
         let (target, patch) = (scarce(&mut random, 1 + round % 4), object(&mut random, 1 + round % 3));
         group.merge(respelled(&target, &mut random), respelled(&patch, &mut random));
     }
@@ -25,7 +25,7 @@ fn few_names(group: &mut Group) {
 
 fn related(group: &mut Group) {
     let mut random = Random::new(93);
-    for round in 0..20_000 {
+    for round in 0..12_000 {
         let [target, patch] = pair(&mut random, 1 + round % 4);
         group.merge(target, patch);
     }
@@ -33,7 +33,7 @@ fn related(group: &mut Group) {
 
 fn of_all_kinds(group: &mut Group) {
     let mut random = Random::new(94);
-    for round in 0..3000 {
+    for round in 0..2000 {
         let text = texts::accepted(&mut random, 1 + round % 40);
         let patch = patch_for(&reference::meaning(&text), &mut random);
         group.merge(&text, respelled(&patch, &mut random));
@@ -43,7 +43,7 @@ fn of_all_kinds(group: &mut Group) {
 
 fn themselves(group: &mut Group) {
     let mut random = Random::new(95);
-    for round in 0..3000 {
+    for round in 0..2000 {
         let text = texts::accepted(&mut random, 1 + round % 20);
         let mut other = reference::meaning(&text);
         for _ in 0..round % 5 {

@@ -23,7 +23,7 @@ fn tell(target: &str, patch: &str) -> String {
 
 fn empty_patch(group: &mut Group) {
     let mut random = Random::new(97);
-    for round in 0..5000 {
+    for round in 0..3000 {
         let target = respelled(&object(&mut random, 1 + round % 4), &mut random);
         let patch = random.pick(&["{}", " { } ", "{\n}"]);
         let (result, canonical) = (merged(&target, patch), written(target.as_bytes()));
@@ -33,7 +33,7 @@ fn empty_patch(group: &mut Group) {
 
 fn no_object(group: &mut Group) {
     let mut random = Random::new(98);
-    for round in 0..5000 {
+    for round in 0..3000 {
         let target = respelled(&scarce(&mut random, 1 + round % 4), &mut random);
         let elements = (0..round % 4).map(|_| scarce(&mut random, 2)).collect();
         let patch = if round % 3 == 0 { scarce(&mut random, 0) } else { Meaning::Array(elements) };
@@ -45,7 +45,7 @@ fn no_object(group: &mut Group) {
 
 fn twice(group: &mut Group) {
     let mut random = Random::new(99);
-    for round in 0..5000 {
+    for round in 0..3000 {
         let [target, patch] = pair(&mut random, 1 + round % 4);
         let once = merged(&target, &patch);
         let again = once.as_ref().and_then(|once| merged(once, &patch));
@@ -55,7 +55,7 @@ fn twice(group: &mut Group) {
 
 fn replicas(group: &mut Group) {
     let mut random = Random::new(100);
-    for round in 0..5000 {
+    for round in 0..3000 {
         let target = object(&mut random, 1 + round % 4);
         let patch = patch_for(&target, &mut random);
         let mut replica = || merged(respelled(&target, &mut random), respelled(&patch, &mut random));
@@ -68,7 +68,7 @@ fn replicas(group: &mut Group) {
 
 fn as_it_stands(group: &mut Group) {
     let mut random = Random::new(101);
-    for round in 0..5000 {
+    for round in 0..3000 {
         let [target, patch] = pair(&mut random, 1 + round % 4);
         let result = merged(&target, &patch);
         let again = result.as_ref().and_then(|result| written(result));
@@ -79,7 +79,7 @@ fn as_it_stands(group: &mut Group) {
 /// Members are independent of each other: a patch may be cut into patches of one member each.
 fn one_by_one(group: &mut Group) {
     let mut random = Random::new(102);
-    for round in 0..2500 {
+    for round in 0..1500 {
         let target = object(&mut random, 1 + round % 4);
         let patch = patch_for(&target, &mut random);
         let Meaning::Object(changes) = &patch else { continue };

@@ -66,7 +66,7 @@ fn prefixes(group: &mut Group) {
 /// Each name of a row of numbers stands in the target, in the patch or in both, to be set or to be removed.
 fn by_chance(group: &mut Group) {
     let mut random = Random::new(81);
-    for round in 0..3000 {
+    for round in 0..2000 {
         let width = 1 + random.below(20);
         let (share, removed) = (1 + random.below(8), random.below(4));
         let mut object = |is_patch: bool| {

@@ -15,7 +15,6 @@ const FIELDS: [&str; 9] = ["label", "amount", "tax", "account", "paid", "note", 
 /// A row of the first fields, in an order by chance, each with a value by chance.
 fn row(random: &mut Random, fields: usize, values: &[&str]) -> String {
     let mut names = FIELDS;
-    names[..fields].reverse();
     random.shuffle(&mut names[..fields]);
     let members: Vec<String> =
         names[..fields].iter().map(|name| format!("\"{name}\":{}", random.pick(values))).collect();
