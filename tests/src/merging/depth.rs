@@ -24,7 +24,7 @@ fn every(group: &mut Group) {
     for levels in 0..=DEEPEST + 1 {
         for patch_levels in 0..=DEEPEST + 1 {
             let value = ["null", "1", "[]", "\"\""][(levels + patch_levels) % 4];
-            group.merge(nest(levels, PLAIN, "1"), nest(patch_levels, SPELLED, value));
+            group.merge_exactly(nest(levels, PLAIN, "1"), nest(patch_levels, SPELLED, value));
         }
     }
 }

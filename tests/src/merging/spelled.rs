@@ -75,7 +75,7 @@ fn spellings(group: &mut Group) {
 }
 
 fn very_long(group: &mut Group) {
-    for length in [127, 128, 255, 256, 257, 1000, 4095, 4096, 4097, 65_535, 65_536, 65_537] {
+    for length in [127, 128, 255, 256, 257, 1000, 4095, 4096, 4097, 65_536] {
         let name = |end: &str| format!("\"{}{end}\"", "n".repeat(length));
         for [one, two] in [["a", "b"], ["b", "\\u0061"], ["", "a"], ["a", ""], ["a", "\\u0061"]] {
             group.merge(format!("{{{}:1}}", name(one)), format!("{{{}:null}}", name(two)));
