@@ -4,7 +4,7 @@ use Rattle.entries.proofs.Outcomes.{merger-one}
 use Rattle.entries.proofs.Readings.{reading-only, ready-text, stop-number}
 use Rattle.entries.specs.Answer.{Answer, Read, Reading, Writing, maxText, over, refusal, success}
 use Rattle.entries.specs.Entries.{Finder, Merger, Reader, Writer}
-use Rattle.meaning.proofs.Demand2.{canonical-one, demand-2, merge-respects, settled, text-back}
+use Rattle.meaning.proofs.Demand2.{canonical-one, demand-2, merge-respects, merge-settled, settled, text-back}
 use Rattle.meaning.specs.Canonical.{Canonical}
 use Rattle.meaning.specs.Meaning.{mean, meaning, tree}
 use Rattle.meaning.specs.Merge.{merge}
@@ -133,3 +133,10 @@ merges-same {t} {p} {c} {t′} {p′} {c′} {v} {u} {v′} {u′} f g x y x′ 
     of {t} {p} {c} {v} {u} f x y =
         let (v′, u′, a, b, z) = merged-text f in
         subst (λ n. Canonical (mean (merge (tree n) (tree u))) c) (one-meaning t a x) (subst (λ n. Canonical (mean (merge (tree v′) (tree n))) c) (one-meaning p b y) z)
+
+-- And the same patch again changes nothing.
+pub merges-settled : {t p c d : Bytes} → Merged t p c → Merged c p d → c ≡ d
+merges-settled {p = p} {c = c} f g =
+    let (v, u, x, y, z) = merged-text f in
+    let (w, u′, r, y′, q) = merged-text g in
+    canonical-one (subst (λ n. Canonical (mean (merge (tree w) (tree n))) c) (one-meaning p y y′) (merge-settled x y z r)) q

@@ -3,11 +3,14 @@ use Prim.Native.Nat.{_*_, _+_, _≤_, max, ℕ}
 use Rattle.meaning.proofs.Depth.{depth, depth-merge, keeps-depth}
 use Rattle.meaning.proofs.Keeps.{Keeps}
 use Rattle.meaning.proofs.Length.{put-length, text-length, width, widthAll, widthPairs}
-use Rattle.meaning.proofs.Merging.{keeps-merge, merge-same}
+use Rattle.meaning.proofs.MergeLength.{merge-weigh}
+use Rattle.meaning.proofs.Merging.{keeps-merge, merge-again, merge-means, merge-same, mergeMeaning}
 use Rattle.meaning.proofs.Order.{before}
 use Rattle.meaning.proofs.Reading.{text-keeps}
 use Rattle.meaning.proofs.RoundTrip.{put-text}
+use Rattle.meaning.proofs.SideBySide.{merged-some, side-by-side}
 use Rattle.meaning.proofs.Sorting.{canon, canonAll, canonPairs, insert, keeps-canon, mean-canon, sorted-canon, sorted-one}
+use Rattle.meaning.proofs.Weight.{put-weigh}
 use Rattle.meaning.specs.Canonical.{Canonical, put}
 use Rattle.meaning.specs.Meaning.{Meaning, Pairs, Tree, Trees, mean, meaning, tree}
 use Rattle.meaning.specs.Merge.{merge}
@@ -110,3 +113,20 @@ module _ {s t : Bytes} {v u : Node} (x : Text house s v) (y : Text house t u) wh
   pub merge-respects : {s′ t′ : Bytes} {v′ u′ : Node} → Text house s′ v′ → Text house t′ u′ → meaning v ≡ meaning v′ → meaning u ≡ meaning u′
       → mean (merge (tree v) (tree u)) ≡ mean (merge (tree v′) (tree u′))
   merge-respects {v′ = v′} x′ y′ e f = merge-same (tree v) (tree v′) (text-keeps y) (text-keeps y′) e f
+
+  -- The same patch again changes nothing.
+  pub merge-settled : {c : Bytes} {w : Node} → Canonical (mean (merge (tree v) (tree u))) c → Text house c w → Canonical (mean (merge (tree w) (tree u))) c
+  merge-settled {c} {w} z r =
+      let k = text-keeps y in
+      let (w′, r′, e) = merge-back z in
+      let f : meaning w ≡ mergeMeaning (meaning v) (meaning u) = ap meaning (one-meaning c r r′) ∙ e ∙ merge-means (tree v) k in
+      subst⁻¹ (λ m. Canonical m c) (merge-means (tree w) k ∙ ap (λ m. mergeMeaning m (meaning u)) f ∙ merge-again (meaning v) (meaning u) ∙ sym (merge-means (tree v) k)) z
+
+  -- It is at most six times as long as both.
+  pub merge-six-times : {c : Bytes} → Canonical (mean (merge (tree v) (tree u))) c → length c ≤ 6 * (length s + length t)
+  merge-six-times {c} z =
+      let k = text-keeps x in
+      let l = text-keeps y in
+      let (r, m) = merged-some (sorted-canon l) (sorted-canon k) in
+      let e : length (put r []) ≡ length c = ap (λ r. length (put r [])) (side-by-side k l m) ∙ ap (λ c. length c) (canonical-one (canonical-of merge-keeps) z) in
+      omega (arith, e, put-weigh r [], put-weigh (canon (tree v)) [], put-weigh (canon (tree u)) [], merge-weigh m, six-times x (canonical-of k), six-times y (canonical-of l))

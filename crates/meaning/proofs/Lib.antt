@@ -12,6 +12,7 @@ pub mod NumberLength
 pub mod Length
 pub mod Merging
 pub mod SideBySide
+pub mod MergeLength
 pub mod Depth
 pub mod Nulls
 pub mod Honest

@@ -79,6 +79,48 @@ pub merge-object : (m : Meaning) (f : Units → Maybe) → mergeMeaning m (Meani
 unfolding mergeMeaning merged
 merge-object m f = ap Meaning.object (fun-ext (λ k. merged-set (memberOf m k) (f k)))
 
+-- What a patch's member sets by whether it is null.
+abbrev given : Maybe → Meaning → Bool → Maybe
+given o p b = elim b as (λ _. Maybe) [ true ↦ Maybe.none | false ↦ Maybe.some (mergeMeaning (old o) p) ]
+
+-- The same patch again changes nothing.
+object-again : (m : Meaning) (f : Units → Maybe) → ((k : Units) (o : Maybe) → set (set o (f k)) (f k) ≡ set o (f k))
+    → mergeMeaning (mergeMeaning m (Meaning.object f)) (Meaning.object f) ≡ mergeMeaning m (Meaning.object f)
+unfolding memberOf
+object-again m f h =
+    ap (λ n. mergeMeaning n (Meaning.object f)) (merge-object m f) ∙ merge-object (Meaning.object (λ k. set (memberOf m k) (f k))) f
+    ∙ ap Meaning.object (fun-ext (λ k. h k (memberOf m k))) ∙ sym (merge-object m f)
+
+set-again : (p : Maybe) → (o : Maybe) → set (set o p) p ≡ set o p
+unfolding mergeMeaning memberOf set old
+set-again p =
+    elim p as (λ p. (m : Meaning) → mergeMeaning (mergeMeaning m p) p ≡ mergeMeaning m p) (λ _. Unit {0}) (λ p. (o : Maybe) → set (set o p) p ≡ set o p) [
+      | Meaning.literal w ↦ λ m. refl
+      | Meaning.string us ↦ λ m. refl
+      | Meaning.number x ↦ λ m. refl
+      | Meaning.array ps ↦ λ m. refl
+      | Meaning.object (f → h) ↦ λ m. object-again m f h
+      | Meanings.nil ↦ tt
+      | Meanings.cons p ps ↦ tt
+      | Maybe.none ↦ λ o. refl
+      | Maybe.some (p → h) ↦ λ o. again p (isNullMeaning p) refl h o
+    ]
+  where
+    again : (p : Meaning) (b : Bool) → isNullMeaning p ≡ b → ((m : Meaning) → mergeMeaning (mergeMeaning m p) p ≡ mergeMeaning m p)
+        → (o : Maybe) → set (set o (Maybe.some p)) (Maybe.some p) ≡ set o (Maybe.some p)
+    again p true e h o = ap (given (set o (Maybe.some p)) p) e ∙ sym (ap (given o p) e)
+    again p false e h o =
+        ap (λ x. set x (Maybe.some p)) (ap (given o p) e) ∙ ap (given (Maybe.some (mergeMeaning (old o) p)) p) e
+        ∙ ap Maybe.some (h (old o)) ∙ sym (ap (given o p) e)
+
+pub merge-again : (m p : Meaning) → mergeMeaning (mergeMeaning m p) p ≡ mergeMeaning m p
+unfolding mergeMeaning
+merge-again m (Meaning.literal w) = refl
+merge-again m (Meaning.string us) = refl
+merge-again m (Meaning.number x) = refl
+merge-again m (Meaning.array ps) = refl
+merge-again m (Meaning.object f) = object-again m f (λ k. set-again (f k))
+
 -- The parts of the merge of trees mean those of the merge of meanings.
 pub find-means : (ps : Pairs) (k : Units) → mean (find ps k) ≡ old (at ps k)
 unfolding find at old

@@ -4,14 +4,15 @@ use Prim.Native.Nat.{ℕ}
 use Rattle.meaning.proofs.Keeps.{Keeps}
 use Rattle.meaning.proofs.Members.{Which, at-it, at-other, which}
 use Rattle.meaning.proofs.Merging.{keeps-merge, members-mean, merge-means, merge-object, mergeMeaning, null-means, old, set}
-use Rattle.meaning.proofs.Sorting.{above-none, canon, mean-canon, sorted-canon, sorted-one}
+use Rattle.meaning.proofs.Order.{Placed, place}
+use Rattle.meaning.proofs.Sorting.{above-none, above-trans, canon, mean-canon, sorted-canon, sorted-one}
 use Rattle.meaning.specs.Meaning.{Maybe, Meaning, Pairs, Tree, at, mean}
 use Rattle.meaning.specs.Merge.{isNull, membersOf, merge}
 use Rattle.meaning.specs.Order.{Above, Sorted, SortedPairs}
 use Rattle.text.specs.Bytes.{Units}
 use Rattle.text.specs.Node.{Literal}
 use mathlib.Core.Bool.{Bool, false, true, true≢false}
-use mathlib.Core.Path.{_∙_, _≡_, ap, ap₂, fun-ext, refl, sym}
+use mathlib.Core.Path.{_∙_, _≡_, ap, ap₂, fun-ext, refl, subst, sym}
 
 -- What a member that isn't there is merged as.
 abbrev pub nothing : Tree
@@ -128,7 +129,49 @@ mutual
   side-sorted (Side.remove a b z s) (SortedPairs.pair c t x) (SortedPairs.pair d p y) = side-sorted s x y
   side-sorted (Side.change a b z m s) (SortedPairs.pair c t x) (SortedPairs.pair d p y) = SortedPairs.pair (side-above a b s) (merged-sorted m t p) (side-sorted s x y)
 
--- So it is the sorted tree of the merge.
+-- One member of the patch among those of the target, where its value has a merge with any, and the others have.
+module _ {j : Units} {p : Tree} {qs : Pairs} (b : Above j qs) (f : (t : Tree) → Sorted t → (r : Tree) × Merged t p r) (g : (ps : Pairs) → SortedPairs ps → (rs : Pairs) × Side ps qs rs) where
+  alone : {ps : Pairs} → Above j ps → SortedPairs ps → (z : Bool) → isNull p ≡ z → (rs : Pairs) × Side ps (Pairs.pair j p qs) rs
+  alone a x true e = let (rs, s) = g _ x in (rs, Side.skip a b e s)
+  alone a x false e = let (rs, s) = g _ x in let (r, m) = f _ Sorted.literal in (Pairs.pair j r rs, Side.new a b e m s)
+
+  both : {t : Tree} {ps : Pairs} → Above j ps → Sorted t → SortedPairs ps → (z : Bool) → isNull p ≡ z → (rs : Pairs) × Side (Pairs.pair j t ps) (Pairs.pair j p qs) rs
+  both a y x true e = let (rs, s) = g _ x in (rs, Side.remove a b e s)
+  both a y x false e = let (rs, s) = g _ x in let (r, m) = f _ y in (Pairs.pair j r rs, Side.change a b e m s)
+
+  among : {ps : Pairs} → SortedPairs ps → (rs : Pairs) × Side ps (Pairs.pair j p qs) rs
+  among SortedPairs.empty = alone Above.none SortedPairs.empty (isNull p) refl
+  among (SortedPairs.pair {k = k} {t = t} {ps = ps} a y x) = by (place k j) (among x)
+    where
+      by : Placed k j → (rs : Pairs) × Side ps (Pairs.pair j p qs) rs → (rs : Pairs) × Side (Pairs.pair k t ps) (Pairs.pair j p qs) rs
+      by (Placed.ahead l) (rs, s) = (Pairs.pair k t rs, Side.keep a (Above.next l (above-trans l b)) s)
+      by (Placed.equal e) s = subst (λ i. (rs : Pairs) × Side (Pairs.pair i t ps) (Pairs.pair j p qs) rs) (sym e) (both (subst (λ i. Above i ps) e a) y x (isNull p) refl)
+      by (Placed.behind l) s = alone (Above.next l (above-trans l a)) (SortedPairs.pair a y x) (isNull p) refl
+
+-- Sorted trees have a merge.
+mutual
+  unfolding isObject membersOf
+
+  pub merged-some : {t p : Tree} → Sorted p → Sorted t → (r : Tree) × Merged t p r
+  merged-some {p = p} Sorted.literal y = (p, Merged.plain refl)
+  merged-some {p = p} Sorted.string y = (p, Merged.plain refl)
+  merged-some {p = p} Sorted.number y = (p, Merged.plain refl)
+  merged-some {p = p} (Sorted.array x) y = (p, Merged.plain refl)
+  merged-some (Sorted.object x) Sorted.literal = let (rs, s) = side-some x SortedPairs.empty in (Tree.object rs, Merged.object s)
+  merged-some (Sorted.object x) Sorted.string = let (rs, s) = side-some x SortedPairs.empty in (Tree.object rs, Merged.object s)
+  merged-some (Sorted.object x) Sorted.number = let (rs, s) = side-some x SortedPairs.empty in (Tree.object rs, Merged.object s)
+  merged-some (Sorted.object x) (Sorted.array z) = let (rs, s) = side-some x SortedPairs.empty in (Tree.object rs, Merged.object s)
+  merged-some (Sorted.object x) (Sorted.object z) = let (rs, s) = side-some x z in (Tree.object rs, Merged.object s)
+
+  side-some : {ps qs : Pairs} → SortedPairs qs → SortedPairs ps → (rs : Pairs) × Side ps qs rs
+  side-some SortedPairs.empty x = rest x
+    where
+      rest : {ps : Pairs} → SortedPairs ps → (rs : Pairs) × Side ps Pairs.empty rs
+      rest SortedPairs.empty = (Pairs.empty, Side.end)
+      rest (SortedPairs.pair {k = k} {t = t} a y x) = let (rs, s) = rest x in (Pairs.pair k t rs, Side.keep a Above.none s)
+  side-some (SortedPairs.pair b y z) x = among b (λ t s. merged-some y s) (λ ps s. side-some z s) x
+
+-- And a merge of sorted trees is the sorted tree of the merge.
 pub side-by-side : {d : ℕ} {t p r : Tree} → Keeps d t → Keeps d p → Merged (canon t) (canon p) r → r ≡ canon (merge t p)
 side-by-side {t = t} {p} {r} k l m =
     let n = keeps-merge l k in

@@ -119,7 +119,7 @@ mutual
   keeps-canonPairs (KeepsPairs.pair {k = j} u f o os) = keeps-insert u (at-canon os j ∙ f) (keeps-canon o) (keeps-canonPairs os)
 
 -- The sorted tree is sorted.
-above-trans : {j k : Units} {ps : Pairs} → Before j k → Above k ps → Above j ps
+pub above-trans : {j k : Units} {ps : Pairs} → Before j k → Above k ps → Above j ps
 above-trans p Above.none = Above.none
 above-trans p (Above.next q a) = Above.next (before-trans p q) (above-trans p a)
 

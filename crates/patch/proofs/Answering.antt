@@ -1,18 +1,17 @@
 -- What the merge patch answers, in the terms of the entries.
-use Prim.Native.Nat.{_*_, _<_, _≤_, ℕ}
+use Prim.Native.Nat.{_<_, _≤_, ℕ}
+use Rattle.entries.proofs.Readings.{ready-text}
 use Rattle.entries.proofs.Slices.{reading-length}
 use Rattle.entries.specs.Answer.{Read, Reading, Writing, maxText, over}
 use Rattle.entries.specs.Entries.{Merger}
-use Rattle.meaning.proofs.Demand2.{canonical-of, merge-keeps, six-times}
+use Rattle.meaning.proofs.Demand2.{canonical-of, merge-keeps, merge-six-times}
 use Rattle.meaning.proofs.Reading.{text-keeps}
-use Rattle.meaning.proofs.SideBySide.{side-by-side}
+use Rattle.meaning.proofs.SideBySide.{merged-some, side-by-side}
 use Rattle.meaning.proofs.Sorting.{canon, sorted-canon}
-use Rattle.meaning.proofs.Weight.{put-weigh, weigh}
 use Rattle.meaning.specs.Canonical.{Canonical, put}
 use Rattle.meaning.specs.Meaning.{mean, tree}
 use Rattle.meaning.specs.Merge.{merge}
 use Rattle.patch.proofs.Emitting.{emit-length}
-use Rattle.patch.proofs.Sides.{members-weigh, merged-some, merged-weigh}
 use Rattle.patch.specs.Emits.{Emits, Fits, mostBytes}
 use Rattle.patch.specs.Stands.{Old, Stands}
 use Rattle.patch.specs.Walks.{Merges}
@@ -20,8 +19,6 @@ use Rattle.reader.proofs.Answering.{ready, stopped}
 use Rattle.reader.specs.Answers.{ReadAs, answerOf, answered}
 use Rattle.reader.specs.declared.answer.Answer.{Answer}
 use Rattle.text.specs.Bytes.{Bytes}
-use Rattle.text.specs.Ceilings.{house}
-use Rattle.text.specs.Grammar.{Text}
 use Rattle.text.specs.Node.{Node}
 use Rattle.text.specs.Table.{Words}
 use Rattle.values.proofs.Holding.{reading-held}
@@ -29,23 +26,17 @@ use Rattle.writer.proofs.Lengths.{too-long, too-narrow, well-written}
 use lib.ListN.{length}
 use mathlib.Core.Bool.{false, true, true≢false}
 use mathlib.Core.List.{[]}
-use mathlib.Core.Path.{_∙_, _≡_, ap, refl, subst, subst⁻¹, sym}
+use mathlib.Core.Path.{_∙_, _≡_, ap, refl, subst⁻¹, sym}
 use native.Mathlib.Omega.{arith}
 
--- What was read is a text of at most the ceiling's length.
+-- What was read is no longer than the ceiling.
 read-short : {k : ℕ} {t : Bytes} {w w′ : Words} {v : Node} → Reading k t w (Read.ready v w′) → length t ≤ maxText
 read-short (Reading.accepted l m x) = l
 
-read-text : {k : ℕ} {t : Bytes} {w w′ : Words} {v : Node} → Reading k t w (Read.ready v w′) → Text house t v
-read-text (Reading.accepted l m x) = x
-
--- Its value stands at the first record, and weighs at most six times the ceiling.
+-- Its value stands at the first record.
 module _ {k : ℕ} {t : Bytes} {w w′ : Words} {v : Node} (r : Reading k t w (Read.ready v w′)) where
   read-stands : Stands t w′ 0 0 (canon (tree v))
-  read-stands = Stands.stands (read-short r) (reading-held r) (text-keeps (read-text r)) refl
-
-  read-weigh : weigh (canon (tree v)) ≤ 6 * maxText
-  read-weigh = omega (arith, read-short r, six-times (read-text r) (canonical-of (text-keeps (read-text r))), put-weigh (canon (tree v)) [])
+  read-stands = Stands.stands (read-short r) (reading-held r) (text-keeps (ready-text r)) refl
 
 -- Two texts that were read, and the canonical text of their merge.
 pub record Accepted (t p : Bytes) (w x w′ x′ : Words) : Type 0 where
@@ -60,19 +51,20 @@ pub record Accepted (t p : Bytes) (w x w′ x′ : Words) : Type 0 where
 
 taken : {t p : Bytes} {w x w′ x′ : Words} (v u : Node) → Reading 1 t w (Read.ready v w′) → Reading 2 p x (Read.ready u x′) → Accepted t p w x w′ x′
 taken v u a b =
-    let k = text-keeps (read-text a) in
-    let l = text-keeps (read-text b) in
+    let k = text-keeps (ready-text a) in
+    let l = text-keeps (ready-text b) in
     let (r, m) = merged-some (sorted-canon l) (sorted-canon k) in
-    let n = merge-keeps (read-text a) (read-text b) in
+    let c : Canonical (mean (merge (tree v) (tree u))) (put r []) =
+    subst⁻¹ (λ r. Canonical (mean (merge (tree v) (tree u))) (put r [])) (side-by-side k l m) (canonical-of (merge-keeps (ready-text a) (ready-text b))) in
     record {
       old = v;
       new = u;
       target = a;
       patch = b;
       text = put r [];
-      canonical = subst (λ r. Canonical (mean (merge (tree v) (tree u))) (put r [])) (sym (side-by-side k l m)) (canonical-of n);
+      canonical = c;
       merges = Merges.merges (Old.some (read-stands a)) (read-stands b) m refl;
-      few = omega (arith, put-weigh r [], merged-weigh m, members-weigh (canon (tree v)), read-weigh a, read-weigh b);
+      few = omega (arith, read-short a, read-short b, merge-six-times (ready-text a) (ready-text b) c);
     }
 
 module _ {t p : Bytes} {w x w′ : Words} {a : Answer} where

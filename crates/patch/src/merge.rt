@@ -13,40 +13,30 @@ use reader::read::read_text;
 // output as it is.
 pub fn merge_text(
     target: &[u8],
-    target_table: &mut [u32],
+    olds: &mut [u32],
     patch: &[u8],
-    patch_table: &mut [u32],
+    news: &mut [u32],
     out: &mut [u8],
 ) -> Answer
-    ensures merger { λ r. ⌜ Merger (now (target .entry)) (now («target_table» .entry)) (now (patch .entry)) (now («patch_table» .entry)) (now (out .entry)) (answerOf r) (now («target_table» .exit)) (now («patch_table» .exit)) (now (out .exit)) ⌝ }
+    ensures merger { λ r. ⌜ Merger (now (target .entry)) (now (olds .entry)) (now (patch .entry)) (now (news .entry)) (now (out .entry)) (answerOf r) (now (olds .exit)) (now (news .exit)) (now (out .exit)) ⌝ }
 {
-    let a = read_text(target, target_table, 1);
+    let a = read_text(target, olds, 1);
     let wrong = a.number;
     if wrong != 0 {
         return a;
     }
-    let b = read_text(patch, patch_table, 2);
+    let b = read_text(patch, news, 2);
     let number = b.number;
     if number != 0 {
         return b;
     }
-    let n = merge_value(
-        target,
-        target_table,
-        0,
-        patch,
-        patch_table,
-        0,
-        0,
-        false,
-        out,
-    );
+    let n = merge_value(target, olds, 0, patch, news, 0, 0, false, out);
     if MAX_TEXT < n {
         return refusal(13, 3, n);
     }
     if out.len() < n {
         return refusal(12, 3, n);
     }
-    merge_value(target, target_table, 0, patch, patch_table, 0, 0, true, out);
+    merge_value(target, olds, 0, patch, news, 0, 0, true, out);
     success(n)
 }

@@ -14,16 +14,16 @@ use names::compare::compare;
 // `y`: 0 if the target's comes next, 1 if both have its name, 2 if the patch's does.
 pub fn turn(
     target: &[u8],
-    target_table: &[u32],
+    olds: &[u32],
     x: usize,
     i: usize,
     patch: &[u8],
-    patch_table: &[u32],
+    news: &[u32],
     y: usize,
     j: usize,
 ) -> u64
-    requires { ⌜ (0 < i → Named (now target) (now «target_table») x) × (0 < j → Named (now patch) (now «patch_table») y) ⌝ }
-    ensures { λ z. ⌜ z ≡ turnOf i j (nameOf (now (target .entry)) (now («target_table» .entry)) x) (nameOf (now (patch .entry)) (now («patch_table» .entry)) y) ⌝ }
+    requires { ⌜ (0 < i → Named (now target) (now olds) x) × (0 < j → Named (now patch) (now news) y) ⌝ }
+    ensures { λ z. ⌜ z ≡ turnOf i j (nameOf (now (target .entry)) (now (olds .entry)) x) (nameOf (now (patch .entry)) (now (news .entry)) y) ⌝ }
 {
     if j == 0 {
         return 0;
@@ -31,8 +31,8 @@ pub fn turn(
     if i == 0 {
         return 2;
     }
-    let p = word_at(target_table, x, 2) + 1;
-    let q = word_at(patch_table, y, 2) + 1;
+    let p = word_at(olds, x, 2) + 1;
+    let q = word_at(news, y, 2) + 1;
     compare(&target[p..], &patch[q..])
 }
 

@@ -1,5 +1,6 @@
 // The merge of two values. Values inside values are merged by recursion, at most 64 deep, since no text
-// opens more containers at once. If not `on`, each step only counts what it would write.
+// opens more containers at once. If not `on`, each step only counts what it would write. `olds` is the
+// target's table, `news` the patch's.
 ghost use Prim.Native.Nat.{_≤_};
 ghost use Rattle.entries.specs.Answer.{maxText};
 ghost use Rattle.meaning.specs.Canonical.{put};
@@ -53,10 +54,10 @@ fn keep_member(
 // the patch merged with it, or nothing.
 fn merge_member(
     target: &[u8],
-    target_table: &mut [u32],
+    olds: &mut [u32],
     x: usize,
     patch: &[u8],
-    patch_table: &mut [u32],
+    news: &mut [u32],
     y: usize,
     z: u64,
     mark: u8,
@@ -64,30 +65,20 @@ fn merge_member(
     on: bool,
     out: &mut [u8],
 ) -> usize
-    requires { ⌜ (depth ≤ maxDepth) × ((e : Bytes) × Takes (now target) (now patch) (now «target_table») (now «patch_table») depth x y z mark e × Fits on e (now out)) ⌝ }
-    ensures emitted { λ n. ⌜ ((e : Bytes) → Takes (now (target .entry)) (now (patch .entry)) (now («target_table» .entry)) (now («patch_table» .entry)) depth x y z mark e → Emits on e (now (out .entry)) n (now (out .exit))) ⌝ }
-    ensures same { λ _. ⌜ (now («target_table» .exit) ≡ now («target_table» .entry)) × (now («patch_table» .exit) ≡ now («patch_table» .entry)) ⌝ }
+    requires { ⌜ (depth ≤ maxDepth) × ((e : Bytes) × Takes (now target) (now patch) (now olds) (now news) depth x y z mark e × Fits on e (now out)) ⌝ }
+    ensures emitted { λ n. ⌜ ((e : Bytes) → Takes (now (target .entry)) (now (patch .entry)) (now (olds .entry)) (now (news .entry)) depth x y z mark e → Emits on e (now (out .entry)) n (now (out .exit))) ⌝ }
+    ensures same { λ _. ⌜ (now (olds .exit) ≡ now (olds .entry)) × (now (news .exit) ≡ now (news .entry)) ⌝ }
 {
     if z == 0 {
-        return keep_member(target, target_table, x, mark, depth, on, out);
+        return keep_member(target, olds, x, mark, depth, on, out);
     }
-    if is_null(patch, patch_table, y) {
+    if is_null(patch, news, y) {
         return 0;
     }
-    let n = emit_key(patch, patch_table, y, mark, on, out);
+    let n = emit_key(patch, news, y, mark, on, out);
     let old = old_of(z, x);
     let k = rest_at(on, n);
-    let m = merge_value(
-        target,
-        target_table,
-        old,
-        patch,
-        patch_table,
-        y,
-        depth,
-        on,
-        &mut out[k..],
-    );
+    let m = merge_value(target, olds, old, patch, news, y, depth, on, &mut out[k..]);
     n + m
 }
 
@@ -95,20 +86,20 @@ fn merge_member(
 // patch.
 fn merge_members(
     target: &[u8],
-    target_table: &mut [u32],
+    olds: &mut [u32],
     a: usize,
     m: usize,
     patch: &[u8],
-    patch_table: &mut [u32],
+    news: &mut [u32],
     b: usize,
     n: usize,
     depth: usize,
     on: bool,
     out: &mut [u8],
 ) -> usize
-    requires { ⌜ (depth ≤ maxDepth) × ((c : Bytes) × Sides (now target) (now patch) (now «target_table») (now «patch_table») depth m a n b c × Fits on c (now out)) ⌝ }
-    ensures emitted { λ k. ⌜ ((c : Bytes) → Sides (now (target .entry)) (now (patch .entry)) (now («target_table» .entry)) (now («patch_table» .entry)) depth m a n b c → Emits on c (now (out .entry)) k (now (out .exit))) ⌝ }
-    ensures same { λ _. ⌜ (now («target_table» .exit) ≡ now («target_table» .entry)) × (now («patch_table» .exit) ≡ now («patch_table» .entry)) ⌝ }
+    requires { ⌜ (depth ≤ maxDepth) × ((c : Bytes) × Sides (now target) (now patch) (now olds) (now news) depth m a n b c × Fits on c (now out)) ⌝ }
+    ensures emitted { λ k. ⌜ ((c : Bytes) → Sides (now (target .entry)) (now (patch .entry)) (now (olds .entry)) (now (news .entry)) depth m a n b c → Emits on c (now (out .entry)) k (now (out .exit))) ⌝ }
+    ensures same { λ _. ⌜ (now (olds .exit) ≡ now (olds .entry)) × (now (news .exit) ≡ now (news .entry)) ⌝ }
 {
     let mut at: usize = 0;
     let mut x = a;
@@ -116,15 +107,15 @@ fn merge_members(
     let mut y = b;
     let mut j = n;
     while (0 < i) | (0 < j) {
-        let z = turn(target, target_table, x, i, patch, patch_table, y, j);
+        let z = turn(target, olds, x, i, patch, news, y, j);
         let mark = mark_at(at);
         let k = rest_at(on, at);
         at += merge_member(
             target,
-            target_table,
+            olds,
             x,
             patch,
-            patch_table,
+            news,
             y,
             z,
             mark,
@@ -132,9 +123,9 @@ fn merge_members(
             on,
             &mut out[k..],
         );
-        x = onward_if(z < 2, target_table, x);
+        x = onward_if(z < 2, olds, x);
         i = fewer_if(z < 2, i);
-        y = onward_if(0 < z, patch_table, y);
+        y = onward_if(0 < z, news, y);
         j = fewer_if(0 < z, j);
     }
     let k = rest_at(on, at);
@@ -145,42 +136,30 @@ fn merge_members(
 // inside `depth` open containers, to the front of `out`. The tables are as they were.
 pub fn merge_value(
     target: &[u8],
-    target_table: &mut [u32],
+    olds: &mut [u32],
     x: usize,
     patch: &[u8],
-    patch_table: &mut [u32],
+    news: &mut [u32],
     y: usize,
     depth: usize,
     on: bool,
     out: &mut [u8],
 ) -> usize
-    requires { ⌜ (depth ≤ maxDepth) × ((c : Bytes) × Merges (now target) (now patch) (now «target_table») (now «patch_table») depth x y c × Fits on c (now out)) ⌝ }
-    ensures emitted { λ k. ⌜ ((c : Bytes) → Merges (now (target .entry)) (now (patch .entry)) (now («target_table» .entry)) (now («patch_table» .entry)) depth x y c → Emits on c (now (out .entry)) k (now (out .exit))) ⌝ }
-    ensures same { λ _. ⌜ (now («target_table» .exit) ≡ now («target_table» .entry)) × (now («patch_table» .exit) ≡ now («patch_table» .entry)) ⌝ }
+    requires { ⌜ (depth ≤ maxDepth) × ((c : Bytes) × Merges (now target) (now patch) (now olds) (now news) depth x y c × Fits on c (now out)) ⌝ }
+    ensures emitted { λ k. ⌜ ((c : Bytes) → Merges (now (target .entry)) (now (patch .entry)) (now (olds .entry)) (now (news .entry)) depth x y c → Emits on c (now (out .entry)) k (now (out .exit))) ⌝ }
+    ensures same { λ _. ⌜ (now (olds .exit) ≡ now (olds .entry)) × (now (news .exit) ≡ now (news .entry)) ⌝ }
 {
-    if !is_object(patch, patch_table, y) {
-        return emit_value(patch, patch_table, y, depth, on, out);
+    if !is_object(patch, news, y) {
+        return emit_value(patch, news, y, depth, on, out);
     }
-    let c = enter_old(target, target_table, x);
+    let c = enter_old(target, olds, x);
     let a = c.head;
     let m = c.count;
-    let d = enter(patch, patch_table, y);
+    let d = enter(patch, news, y);
     let b = d.head;
     let n = d.count;
-    let k = merge_members(
-        target,
-        target_table,
-        a,
-        m,
-        patch,
-        patch_table,
-        b,
-        n,
-        depth + 1,
-        on,
-        out,
-    );
-    clear(target_table, x + 1, m);
-    clear(patch_table, y + 1, n);
+    let k = merge_members(target, olds, a, m, patch, news, b, n, depth + 1, on, out);
+    clear(olds, x + 1, m);
+    clear(news, y + 1, n);
     k
 }

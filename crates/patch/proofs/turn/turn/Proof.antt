@@ -11,31 +11,31 @@ returns-2 : tie.Need-returns-2
 returns-2 c = turn-patch _ _ _ _ (c .before .if1 .left) (c .if2 .taken)
 
 word-at-requires : tie.Need-word-at-requires
-word-at-requires c κs = let s = c .before .before .before .before .before .before in turn-room (s .args .target .now) (s .args .target-table .now) (s .args .x) (s .pre .0) (c .if2 .left)
+word-at-requires c κs = let s = c .before .before .before .before .before .before in turn-room (s .args .target .now) (s .args .olds .now) (s .args .x) (s .pre .0) (c .if2 .left)
 
 add-p : tie.Need-add-p
-add-p c = let s = c .before .before .before .before .before .before .before in omega (arith, turn-quote (s .args .target .now) (s .args .target-table .now) (s .args .x) (s .pre .0) (c .before .if2 .left) (c .word-at .ensures))
+add-p c = let s = c .before .before .before .before .before .before .before in omega (arith, turn-quote (s .args .target .now) (s .args .olds .now) (s .args .x) (s .pre .0) (c .before .if2 .left) (c .word-at .ensures))
 
 word-at-requires-2 : tie.Need-word-at-requires-2
-word-at-requires-2 c κs = let s = c .before .before .before .before .before .before .before in turn-room (s .args .patch .now) (s .args .patch-table .now) (s .args .y) (s .pre .1) (c .before .before .if1 .left)
+word-at-requires-2 c κs = let s = c .before .before .before .before .before .before .before in turn-room (s .args .patch .now) (s .args .news .now) (s .args .y) (s .pre .1) (c .before .before .if1 .left)
 
 add-q : tie.Need-add-q
-add-q c = let s = c .before .before .before .before .before .before .before .before in omega (arith, turn-quote (s .args .patch .now) (s .args .patch-table .now) (s .args .y) (s .pre .1) (c .before .before .before .if1 .left) (c .word-at2 .ensures))
+add-q c = let s = c .before .before .before .before .before .before .before .before in omega (arith, turn-quote (s .args .patch .now) (s .args .news .now) (s .args .y) (s .pre .1) (c .before .before .before .if1 .left) (c .word-at2 .ensures))
 
 sub-compare : tie.Need-sub-compare
-sub-compare c = let s = c .before .before .before .before .before .before .before .before in turn-quote (s .args .target .now) (s .args .target-table .now) (s .args .x) (s .pre .0) (c .before .before .if2 .left) (c .before .word-at .ensures)
+sub-compare c = let s = c .before .before .before .before .before .before .before .before in turn-quote (s .args .target .now) (s .args .olds .now) (s .args .x) (s .pre .0) (c .before .before .if2 .left) (c .before .word-at .ensures)
 
 part-compare-start : tie.Need-part-compare-start
-part-compare-start c = let s = c .before .before .before .before .before .before .before .before in turn-quote (s .args .target .now) (s .args .target-table .now) (s .args .x) (s .pre .0) (c .before .before .if2 .left) (c .before .word-at .ensures)
+part-compare-start c = let s = c .before .before .before .before .before .before .before .before in turn-quote (s .args .target .now) (s .args .olds .now) (s .args .x) (s .pre .0) (c .before .before .if2 .left) (c .before .word-at .ensures)
 
 part-compare-end : tie.Need-part-compare-end
 part-compare-end c = search needs
 
 sub-compare-2 : tie.Need-sub-compare-2
-sub-compare-2 c = let s = c .before .before .before .before .before .before .before .before .before in turn-quote (s .args .patch .now) (s .args .patch-table .now) (s .args .y) (s .pre .1) (c .before .before .before .before .if1 .left) (c .before .word-at2 .ensures)
+sub-compare-2 c = let s = c .before .before .before .before .before .before .before .before .before in turn-quote (s .args .patch .now) (s .args .news .now) (s .args .y) (s .pre .1) (c .before .before .before .before .if1 .left) (c .before .word-at2 .ensures)
 
 part-compare-start-2 : tie.Need-part-compare-start-2
-part-compare-start-2 c = let s = c .before .before .before .before .before .before .before .before .before in turn-quote (s .args .patch .now) (s .args .patch-table .now) (s .args .y) (s .pre .1) (c .before .before .before .before .if1 .left) (c .before .word-at2 .ensures)
+part-compare-start-2 c = let s = c .before .before .before .before .before .before .before .before .before in turn-quote (s .args .patch .now) (s .args .news .now) (s .args .y) (s .pre .1) (c .before .before .before .before .if1 .left) (c .before .word-at2 .ensures)
 
 part-compare-end-2 : tie.Need-part-compare-end-2
 part-compare-end-2 c = search needs
@@ -44,7 +44,7 @@ compare-requires : tie.Need-compare-requires
 compare-requires c κs = search needs
 
 returns-3 : tie.Need-returns-3
-returns-3 c = let s = c .before .before .before .before .before .before .before .before .before .before .before in turn-names (s .args .i) (s .args .j) (s .args .target .now) (s .args .patch .now) (s .args .target-table .now) (s .args .patch-table .now) (s .args .x) (s .args .y) (c .before .before .before .before .before .before .if1 .left) (c .before .before .before .before .before .if2 .left) (c .before .before .before .before .word-at .ensures) (c .before .before .before .word-at2 .ensures) (c .compare .ensures)
+returns-3 c = let s = c .before .before .before .before .before .before .before .before .before .before .before in turn-names (s .args .i) (s .args .j) (s .args .target .now) (s .args .patch .now) (s .args .olds .now) (s .args .news .now) (s .args .x) (s .args .y) (c .before .before .before .before .before .before .if1 .left) (c .before .before .before .before .before .if2 .left) (c .before .before .before .before .word-at .ensures) (c .before .before .before .word-at2 .ensures) (c .compare .ensures)
 
 pub turn-spec : {M : Type 1} → statement M
 turn-spec =

@@ -153,12 +153,12 @@ merge-member-returns-3 : (t : ℕ) → merge-member-lts.Need-returns-3 (merge-me
 merge-member-returns-3 t c = let (d, (e, x, f)) = c .before .before .before .before .before .before .before .before .before .before .before .before .before .before .before .before .before .before .before .before .before .before .before .before .before .before .pre .1 in ((λ z y. value-gives (c .before .before .before .before .before .before .before .before .before .before .before .before .before .before .before .before .before .before .before .before .if1 .left) (c .before .before .before .before .before .before .before .before .before .before .before .before .before .before .before .before .before .before .is-null .ensures) (c .before .before .before .before .before .before .before .before .before .before .before .before .before .before .before .before .before .if2 .left) y (name-fits (c .before .before .before .before .before .before .before .before .before .before .before .before .before .before .before .before .before .before .before .before .if1 .left) (c .before .before .before .before .before .before .before .before .before .before .before .before .before .before .before .before .before .before .is-null .ensures) (c .before .before .before .before .before .before .before .before .before .before .before .before .before .before .before .before .before .if2 .left) x f .room) (c .before .before .before .before .before .before .before .before .before .before .before .before .before .before .emit-key .ensures) (c .before .before .before .before .before .before .before .before .before .before .rest-at .ensures) (c .before .before .before .before .before .before .before .before .before .before .before .old-of .ensures) (c .before .before .before .before .before .before .merge-value .ensures .0)), c .before .before .before .before .before .before .merge-value .ensures .1)
 
 abbrev merge-members-Inv-loop : merge-members-lts.InvT-loop
-merge-members-Inv-loop target target-table₀ a m patch patch-table₀ b n depth on out₀ at₀ x₀ i₀ y₀ j₀ target-table patch-table out at x i y j =
-    (target-table ≡ target-table₀) × (patch-table ≡ patch-table₀)
-    × ((c : Bytes) → Sides target patch target-table₀ patch-table₀ depth m a n b c → Going target patch target-table₀ patch-table₀ depth i x j y on out₀ at out c)
+merge-members-Inv-loop target olds₀ a m patch news₀ b n depth on out₀ at₀ x₀ i₀ y₀ j₀ olds news out at x i y j =
+    (olds ≡ olds₀) × (news ≡ news₀)
+    × ((c : Bytes) → Sides target patch olds₀ news₀ depth m a n b c → Going target patch olds₀ news₀ depth i x j y on out₀ at out c)
 
 abbrev merge-members-μ-loop : merge-members-lts.MeasureT-loop
-merge-members-μ-loop target target-table₀ a m patch patch-table₀ b n depth on out₀ at₀ x₀ i₀ y₀ j₀ target-table patch-table out at x i y j = i + j
+merge-members-μ-loop target olds₀ a m patch news₀ b n depth on out₀ at₀ x₀ i₀ y₀ j₀ olds news out at x i y j = i + j
 
 merge-members-loop-holds : (t : ℕ) → merge-members-lts.Need-loop-holds (merge-members-claims t) (merge-members-at t) merge-members.Post merge-members-Inv-loop merge-members-μ-loop
 merge-members-loop-holds t c = (refl, refl, λ e s. going-start _ _ s)
@@ -288,20 +288,7 @@ merge-value-returns-2 t c = ((λ q s. c .before .before .before .before .before 
 
 pub +merge-member+merge-members+merge-value-spec : {M : Type 1} → statement M
 +merge-member+merge-members+merge-value-spec =
-    close μ-merge-member μ-merge-members μ-merge-value (λ t. merge-member-lts.spec (
-      keep-member-reads.Asked,
-      keep-member-reads.Learnt,
-      is-null-reads.Asked,
-      is-null-reads.Learnt,
-      emit-key-reads.Asked,
-      emit-key-reads.Learnt,
-      old-of-reads.Asked,
-      old-of-reads.Learnt,
-      rest-at-reads.Asked,
-      rest-at-reads.Learnt,
-      merge-value-below t,
-      merge-value.Post,
-    )
+    close μ-merge-member μ-merge-members μ-merge-value (λ t. merge-member-lts.spec (merge-member-claims t)
     (merge-member-at t)
     merge-member.Post
     (merge-member-keep-member-requires t)
@@ -323,22 +310,7 @@ pub +merge-member+merge-members+merge-value-spec : {M : Type 1} → statement M
     (merge-member-same-length-5 t)
     (merge-member-same-length-6 t)
     (merge-member-returns-3 t))
-    (λ t. merge-members-lts.spec (
-      turn-reads.Asked,
-      turn-reads.Learnt,
-      mark-at-reads.Asked,
-      mark-at-reads.Learnt,
-      rest-at-reads.Asked,
-      rest-at-reads.Learnt,
-      merge-member-below t,
-      merge-member.Post,
-      onward-if-reads.Asked,
-      onward-if-reads.Learnt,
-      fewer-if-reads.Asked,
-      fewer-if-reads.Learnt,
-      emit-end-reads.Asked,
-      emit-end-reads.Learnt,
-    )
+    (λ t. merge-members-lts.spec (merge-members-claims t)
     (merge-members-at t)
     merge-members.Post
     merge-members-Inv-loop
@@ -368,20 +340,7 @@ pub +merge-member+merge-members+merge-value-spec : {M : Type 1} → statement M
     (merge-members-same-length-2 t)
     (merge-members-same-length-3 t)
     (merge-members-returns t))
-    λ t. merge-value-lts.spec (
-      is-object-reads.Asked,
-      is-object-reads.Learnt,
-      emit-value-reads.Asked,
-      emit-value-reads.Learnt,
-      enter-old-reads.Asked,
-      enter-old-reads.Learnt,
-      enter-reads.Asked,
-      enter-reads.Learnt,
-      merge-members-below t,
-      merge-members.Post,
-      clear-reads.Asked,
-      clear-reads.Learnt,
-    )
+    λ t. merge-value-lts.spec (merge-value-claims t)
     (merge-value-at t)
     merge-value.Post
     (merge-value-is-object-requires t)
