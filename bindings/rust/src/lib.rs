@@ -1,16 +1,4 @@
-//! Reads JSON texts, writes them canonically, looks values up by JSON pointer and applies merge patches, through the
-//! proved library Nibrocate. Any bytes may be handed in; what isn't accepted is refused with one [`Refusal`].
-//!
-//! ```
-//! use nibrocate::{canonical, merge, Document};
-//!
-//! let sheet = br#"{"rent": 650.00, "food": 300}"#;
-//! assert_eq!(canonical(sheet)?, br#"{"food":3e2,"rent":65e1}"#);
-//! assert_eq!(Document::read(sheet)?.get("/rent")?.bytes(), b"650.00");
-//! assert_eq!(merge(sheet, br#"{"food":null}"#)?, br#"{"rent":65e1}"#);
-//! # Ok::<(), nibrocate::Refusal>(())
-//! ```
-
+#![doc = include_str!("../README.md")]
 #![deny(missing_docs, unsafe_code)]
 
 mod canonical;

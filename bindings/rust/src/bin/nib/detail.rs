@@ -1,5 +1,6 @@
 //! What more can be said of a refusal than its name and place.
 
+use crate::expected;
 use crate::open::Open;
 use crate::shown;
 use crate::source::Source;
@@ -14,6 +15,10 @@ pub fn of(refusal: &Refusal, source: &Source) -> Option<String> {
             _ => format!("it has over {TEXT_BYTES} bytes"),
         }),
         Kind::Unfinished => unfinished(&source.text),
+        Kind::WrongByte => {
+            let (start, rest) = source.text.split_at(refusal.place());
+            Some(expected::instead_of(rest[0], start))
+        }
         Kind::NameTwice => used_before(&source.text[..=refusal.place()]),
         Kind::ResultTooLong => Some(format!("it would have {} bytes", refusal.place())),
         _ => None,

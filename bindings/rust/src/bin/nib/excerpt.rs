@@ -12,12 +12,16 @@ pub fn line_and_column(text: &[u8], place: usize) -> (usize, usize) {
 }
 
 /// Two lines: the text around the place, and a caret under the byte there, or behind the last one.
+/// Nothing where the line is empty.
 pub fn excerpt(text: &[u8], place: usize) -> String {
     let start = line_start(text, place).max(place.saturating_sub(SIDE + 1));
     let before: Vec<String> = text[start..place].iter().map(|&byte| quiet(byte)).collect();
     let mut after: Vec<String> = line_rest(text, place).iter().take(SIDE).map(|&byte| quiet(byte)).collect();
     if let Some(&byte) = text.get(place) {
         after.insert(0, shown::byte(byte));
+    }
+    if before.is_empty() && after.is_empty() {
+        return String::new();
     }
     let left = fitting(before.iter().rev());
     let right = fitting(after.iter());
@@ -72,7 +76,7 @@ mod tests {
     fn only_the_line_is_shown() {
         assert_eq!(excerpt(b"[1,\r\n\t2,,\r\n3]", 8), "   2,,\n     ^\n");
         assert_eq!(excerpt(b"[1,\n2", 5), "  2\n   ^\n");
-        assert_eq!(excerpt(b"", 0), "  \n  ^\n");
+        assert_eq!(excerpt(b"[\n", 2), "");
     }
 
     #[test]

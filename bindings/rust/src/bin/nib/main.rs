@@ -4,6 +4,7 @@
 mod arguments;
 mod detail;
 mod excerpt;
+mod expected;
 mod message;
 mod missing;
 mod open;
