@@ -3,6 +3,7 @@
 
 mod canonical;
 mod document;
+mod input;
 mod kind;
 mod merge;
 #[allow(unsafe_code)]
@@ -13,9 +14,10 @@ mod value;
 
 pub use canonical::canonical;
 pub use document::Document;
+pub use input::Input;
 pub use kind::Kind;
 pub use merge::merge;
-pub use refusal::{Input, Refusal};
+pub use refusal::Refusal;
 pub use value::Value;
 
 /// The most bytes that a text may have, be it read or written.
