@@ -20,7 +20,7 @@ impl Open {
     /// What is open at the end of `start`, which is the beginning of some text.
     pub fn at_end(start: &[u8]) -> Open {
         let mut open = Open { containers: Vec::new(), string: None };
-        // The last of `{ [ , : ] }`: a string behind `{`, or behind `,` in an object, is a name.
+        // The last of `{ [ , : ] }`: a string in an object is a name unless that is `:`.
         let mut mark = 0;
         let mut at = 0;
         while at < start.len() {
@@ -44,7 +44,7 @@ impl Open {
 
     fn note_name(&mut self, start: &[u8], mark: u8, string: Range<usize>) {
         if let Some(container) = self.containers.last_mut() {
-            if start[container.at] == b'{' && (mark == b'{' || mark == b',') {
+            if start[container.at] == b'{' && mark != b':' {
                 container.names.push(string);
             }
         }
