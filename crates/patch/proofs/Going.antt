@@ -204,8 +204,8 @@ some-left i j e = by (ltb 0 i) refl e
     by true f g = omega (arith, ltb-true 0 i f)
     by false f g = omega (arith, ltb-true 0 j g)
 
-pub none-left : (i j : ℕ) → (ltb 0 i || ltb 0 j) ≡ false → (i ≡ 0) × (j ≡ 0)
-none-left i j e = by (ltb 0 i) refl e
+pub both-empty : (i j : ℕ) → (ltb 0 i || ltb 0 j) ≡ false → (i ≡ 0) × (j ≡ 0)
+both-empty i j e = by (ltb 0 i) refl e
   where
     by : (b : Bool) → ltb 0 i ≡ b → (b || ltb 0 j) ≡ false → (i ≡ 0) × (j ≡ 0)
     by true f g = absurd (true≢false g)

@@ -14,7 +14,7 @@ use Rattle.values.specs.Children.{Child, elements, members}
 use Rattle.values.specs.Held.{Held, HeldAll, Holds, Spelt}
 use Rattle.writer.proofs.Bounds.{named-most, own-most}
 use Rattle.writer.proofs.Naming.{none-length, some-length}
-use Rattle.writer.specs.Pending.{Counts, Entered, Pending, children, weights}
+use Rattle.writer.specs.Pending.{Countable, Counts, Pending, children, weights}
 use Rattle.writer.specs.Writes.{Nameable, Writes, named}
 use lib.ListN.{length}
 use mathlib.Core.List.{List, [], _++_, _∷_}
@@ -110,7 +110,7 @@ pub record Tally (t : Bytes) (w : Words) (r end n k : ℕ) : Type 0 where
   pub left : (v : Node) → Held t w r v → Measured t w end (weigh (tree v)) n k
 
 -- The first pending value.
-entry-first : {t : Bytes} {w : Words} {end k : ℕ} {cs : List Child} → Pending t w end k cs → k < end → Entered t w k
+entry-first : {t : Bytes} {w : Words} {end k : ℕ} {cs : List Child} → Pending t w end k cs → k < end → Countable t w k
 entry-first Pending.none l = absurd (omega arith)
 entry-first {t} (Pending.more {v = v} h e n p) l = record { value = v; held = h; name = subst (Nameable t) (sym e) n }
 
@@ -140,7 +140,7 @@ module _ {t : Bytes} {w : Words} (small : length t ≤ maxText) where
     tally-start e f = record { few = omega (arith, f v h, own-most h); left = λ u g. measured-start g e (f u g) }
 
     module _ {k : ℕ} (s : Tally t w r end n k) (l : k < end) where
-      pub tally-first : Entered t w k
+      pub tally-first : Countable t w k
       tally-first = entry-first (s .left v h .pending) l
 
       pub tally-turn : {m : ℕ} → Counts t w k m → Tally t w r end (n + m) (k + 1)

@@ -22,7 +22,7 @@ children (Node.array p q vs) = elements vs
 children (Node.object p q ms) = members ms
 
 -- Record `k` has a value, and its name stands in the text, where it has one.
-pub record Entered (t : Bytes) (w : Words) (k : ℕ) : Type 0 where
+pub record Countable (t : Bytes) (w : Words) (k : ℕ) : Type 0 where
   pub value : Node
   pub held : Held t w k value
   pub name : Nameable t (word w k 2)

@@ -6,7 +6,7 @@ ghost use Rattle.meaning.specs.Meaning.{tree};
 ghost use Rattle.text.specs.Bytes.{Bytes};
 ghost use Rattle.text.specs.Node.{Node};
 ghost use Rattle.values.specs.Held.{Held};
-ghost use Rattle.writer.specs.Pending.{Counts, Entered};
+ghost use Rattle.writer.specs.Pending.{Countable, Counts};
 ghost use Rattle.writer.specs.Writes.{Writes};
 ghost use lib.ListN.{length};
 ghost use mathlib.Core.Path.{_≡_};
@@ -36,7 +36,7 @@ fn own_length(text: &[u8], table: &[u32], r: usize) -> usize
 
 // What record `r` counts as an entry of a container: a comma, its name, and its own part.
 fn entry_length(text: &[u8], table: &[u32], r: usize) -> usize
-    requires { ⌜ (length (now text) ≤ maxText) × Entered (now text) (now table) r ⌝ }
+    requires { ⌜ (length (now text) ≤ maxText) × Countable (now text) (now table) r ⌝ }
     ensures { λ n. ⌜ Counts (now (text .entry)) (now (table .entry)) r n ⌝ }
 {
     1 + name_length(text, table, r) + own_length(text, table, r)

@@ -1,7 +1,7 @@
 -- By the number of containers that may still open: a value calls on its members one level deeper, each member on its value.
 use Prim.Native.Nat.{_*_, _+_, _-_}
 use Rattle.patch.proofs.Emitting.{emit-length}
-use Rattle.patch.proofs.Going.{at-room, end-fits, first-named, going-end, going-next, going-rest, going-start, going-turn, next-few, next-fits, none-left, onward-same, takes-same}
+use Rattle.patch.proofs.Going.{at-room, end-fits, first-named, going-end, going-next, going-rest, going-start, going-turn, next-few, next-fits, both-empty, onward-same, takes-same}
 use Rattle.patch.proofs.Opening.{new-small, new-stands, object, old-small, old-value, opens-depth, opens-sides, opens-stands, plain-asks, plain-gives}
 use Rattle.patch.proofs.Taking.{keep-asks, keep-gives, name-fits, name-there, null-gives, patch-stands, value-asks, value-gives, value-start}
 use Rattle.patch.specs.Walks.{Going, Sides}
@@ -218,10 +218,10 @@ merge-members-part-emit-end-end : (t : ℕ) → merge-members-lts.Need-part-emit
 merge-members-part-emit-end-end t c = search needs
 
 merge-members-emit-end-requires : (t : ℕ) → merge-members-lts.Need-emit-end-requires (merge-members-claims t) (merge-members-at t) merge-members.Post merge-members-Inv-loop merge-members-μ-loop
-merge-members-emit-end-requires t c κs = let (d, (e, x, f)) = c .before .before .before .before .before .before .before .before .before .pre .1 in let v = c .before .before .before .loop .inv in let g = v .2 e x in let (l, m) = none-left _ _ (c .before .before .loop-test .left) in end-fits g (at-room g f) (c .before .rest-at2 .ensures) l m f
+merge-members-emit-end-requires t c κs = let (d, (e, x, f)) = c .before .before .before .before .before .before .before .before .before .pre .1 in let v = c .before .before .before .loop .inv in let g = v .2 e x in let (l, m) = both-empty _ _ (c .before .before .loop-test .left) in end-fits g (at-room g f) (c .before .rest-at2 .ensures) l m f
 
 merge-members-add-result : (t : ℕ) → merge-members-lts.Need-add-result (merge-members-claims t) (merge-members-at t) merge-members.Post merge-members-Inv-loop merge-members-μ-loop
-merge-members-add-result t c = let (d, (e, x, f)) = c .before .before .before .before .before .before .before .before .before .before .before .before .pre .1 in let v = c .before .before .before .before .before .before .loop .inv in let g = v .2 e x in let (l, m) = none-left _ _ (c .before .before .before .before .before .loop-test .left) in omega (arith, f .few, (going-end g (at-room g f) (c .before .before .before .before .rest-at2 .ensures) l m (c .before .before .emit-end .ensures)) .count)
+merge-members-add-result t c = let (d, (e, x, f)) = c .before .before .before .before .before .before .before .before .before .before .before .before .pre .1 in let v = c .before .before .before .before .before .before .loop .inv in let g = v .2 e x in let (l, m) = both-empty _ _ (c .before .before .before .before .before .loop-test .left) in omega (arith, f .few, (going-end g (at-room g f) (c .before .before .before .before .rest-at2 .ensures) l m (c .before .before .emit-end .ensures)) .count)
 
 merge-members-same-length : (t : ℕ) → merge-members-lts.Need-same-length (merge-members-claims t) (merge-members-at t) merge-members.Post merge-members-Inv-loop merge-members-μ-loop
 merge-members-same-length t c = ap length (c .before .before .before .before .before .before .loop .inv .0)
@@ -230,10 +230,10 @@ merge-members-same-length-2 : (t : ℕ) → merge-members-lts.Need-same-length-2
 merge-members-same-length-2 t c = ap length (c .before .before .before .before .before .before .loop .inv .1)
 
 merge-members-same-length-3 : (t : ℕ) → merge-members-lts.Need-same-length-3 (merge-members-claims t) (merge-members-at t) merge-members.Post merge-members-Inv-loop merge-members-μ-loop
-merge-members-same-length-3 t c = let (d, (e, x, f)) = c .before .before .before .before .before .before .before .before .before .before .before .before .pre .1 in let v = c .before .before .before .before .before .before .loop .inv in let g = v .2 e x in let (l, m) = none-left _ _ (c .before .before .before .before .before .loop-test .left) in emit-length (going-end g (at-room g f) (c .before .before .before .before .rest-at2 .ensures) l m (c .before .before .emit-end .ensures)) (f .room)
+merge-members-same-length-3 t c = let (d, (e, x, f)) = c .before .before .before .before .before .before .before .before .before .before .before .before .pre .1 in let v = c .before .before .before .before .before .before .loop .inv in let g = v .2 e x in let (l, m) = both-empty _ _ (c .before .before .before .before .before .loop-test .left) in emit-length (going-end g (at-room g f) (c .before .before .before .before .rest-at2 .ensures) l m (c .before .before .emit-end .ensures)) (f .room)
 
 merge-members-returns : (t : ℕ) → merge-members-lts.Need-returns (merge-members-claims t) (merge-members-at t) merge-members.Post merge-members-Inv-loop merge-members-μ-loop
-merge-members-returns t c = let (d, (e, x, f)) = c .before .before .before .before .before .before .before .before .before .before .before .before .pre .1 in let v = c .before .before .before .before .before .before .loop .inv in let g = v .2 e x in let (l, m) = none-left _ _ (c .before .before .before .before .before .loop-test .left) in ((λ q s. going-end (v .2 q s) (at-room g f) (c .before .before .before .before .rest-at2 .ensures) l m (c .before .before .emit-end .ensures)), (v .0, v .1))
+merge-members-returns t c = let (d, (e, x, f)) = c .before .before .before .before .before .before .before .before .before .before .before .before .pre .1 in let v = c .before .before .before .before .before .before .loop .inv in let g = v .2 e x in let (l, m) = both-empty _ _ (c .before .before .before .before .before .loop-test .left) in ((λ q s. going-end (v .2 q s) (at-room g f) (c .before .before .before .before .rest-at2 .ensures) l m (c .before .before .emit-end .ensures)), (v .0, v .1))
 
 merge-value-is-object-requires : (t : ℕ) → merge-value-lts.Need-is-object-requires (merge-value-claims t) (merge-value-at t) merge-value.Post
 merge-value-is-object-requires t c κs = let (d, (e, x, f)) = c .before .before .before .before .before .before .pre .1 in new-stands x
