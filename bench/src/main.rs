@@ -4,6 +4,7 @@
 #[path = "../../tests/src/answer.rs"]
 mod answer;
 mod entry;
+mod finding;
 mod goals;
 #[allow(dead_code)]
 #[path = "../../tests/src/library.rs"]
@@ -24,7 +25,7 @@ mod writing;
 
 use entry::Entry;
 
-const ENTRIES: [Entry; 3] = [reading::ENTRY, writing::ENTRY, merging::ENTRY];
+const ENTRIES: [Entry; 4] = [reading::ENTRY, writing::ENTRY, finding::ENTRY, merging::ENTRY];
 const SIZES: [usize; 3] = [64 << 10, 256 << 10, entry::LONGEST];
 
 fn run(entry: &Entry, rounds: usize) {

@@ -4,7 +4,7 @@ use super::{fill, OBJECT};
 use crate::random::Random;
 
 /// The numbers of a sheet's rows.
-fn rows(sheet: &str) -> std::ops::Range<usize> {
+pub fn rows(sheet: &str) -> std::ops::Range<usize> {
     0..sheet.matches("\"label\"").count()
 }
 
@@ -44,7 +44,7 @@ pub fn nested_objects(target: &str) -> String {
 }
 
 /// The names of an object whose values are numbers.
-fn names(object: &str) -> Vec<&str> {
+pub fn names(object: &str) -> Vec<&str> {
     object.trim_matches(['{', '}']).split(',').filter_map(|member| Some(member.split_once(':')?.0)).collect()
 }
 

@@ -2,6 +2,7 @@
 
 mod edits;
 mod names;
+mod pointers;
 mod sheet;
 mod values;
 mod worst;
@@ -13,17 +14,20 @@ use crate::padded::Padded;
 pub struct Text {
     pub name: &'static str,
     pub padded: Padded,
-    /// What is merged into it, or nothing where it is only read or written.
+    /// What is merged into it, or nothing where it isn't a target.
     pub patch: Padded,
+    /// What is looked up in it, or the empty pointer where nothing is.
+    pub pointer: String,
     pub is_accepted: bool,
 }
 
 impl Text {
     fn alone(name: &'static str, text: String, is_accepted: bool) -> Text {
-        Text { name, padded: Padded::new(text), patch: Padded::new(String::new()), is_accepted }
+        let patch = Padded::new(String::new());
+        Text { name, padded: Padded::new(text), patch, pointer: String::new(), is_accepted }
     }
 
-    /// How many bytes are read.
+    /// How many bytes are read as texts.
     pub fn bytes(&self) -> usize {
         self.padded.len() + self.patch.len()
     }
@@ -90,6 +94,40 @@ pub fn too_long_when_written() -> Vec<Text> {
     vec![Text::alone("delete characters, too long when written", worst::delete_characters(LONGEST), false)]
 }
 
+/// A kind of text, and how a pointer is made for it.
+type Search = (&'static str, fn(usize) -> String, fn(&str) -> String);
+
+const FOUND: [Search; 11] = [
+    ("last cell of a sheet", sheet::compact, pointers::last_cell),
+    ("last cell of a pretty sheet", sheet::pretty, pointers::last_cell),
+    ("last of strings", values::strings, pointers::last_element),
+    ("last of numbers", values::numbers, pointers::last_element),
+    ("innermost of the last nested", values::nested, pointers::last_nested),
+    ("last of random names", names::random, pointers::last_name),
+    ("last of long common prefixes", names::long_prefixes, pointers::last_name),
+    ("last of escaped names", names::escaped, pointers::last_name),
+    ("last of equally long names with a common prefix", names::short_prefixes, pointers::last_name),
+    ("innermost of the deepest nesting", worst::deepest, pointers::last_deepest),
+    ("last of the shortest values", worst::shortest, pointers::last_element),
+];
+
+const NOT_FOUND: [Search; 3] = [
+    ("none of random names", names::random, pointers::no_name),
+    ("malformed pointer into a sheet", sheet::compact, pointers::malformed),
+    ("sheet with a wrong last byte", worst::wrong_last_byte, pointers::last_cell),
+];
+
+/// Texts of at most so many bytes with a pointer each.
+pub fn to_find(size: usize) -> Vec<Text> {
+    let accepted = FOUND.iter().map(|search| searched(search, size, true));
+    accepted.chain(NOT_FOUND.iter().map(|search| searched(search, size, false))).collect()
+}
+
+fn searched(&(name, kind, point): &Search, size: usize, is_accepted: bool) -> Text {
+    let text = kind(size);
+    Text { pointer: point(&text), ..Text::alone(name, text, is_accepted) }
+}
+
 /// A kind of target, and how a patch is made for it.
 type Pair = (&'static str, fn(usize) -> String, fn(&str) -> String);
 
@@ -121,7 +159,7 @@ fn merged(&(name, kind, edit): &Pair, size: usize, is_accepted: bool) -> Text {
         let patch = edit(&target);
         let longest = patch.len().max(length_merged(&target, &patch));
         if longest <= size {
-            return Text { name, padded: Padded::new(target), patch: Padded::new(patch), is_accepted };
+            return Text { patch: Padded::new(patch), ..Text::alone(name, target, is_accepted) };
         }
         room = room * size / longest;
     }
