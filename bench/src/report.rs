@@ -46,10 +46,14 @@ pub fn growth_of(kind: &[f64]) -> f64 {
     kind[kind.len() - 1] / kind[0]
 }
 
+pub fn growth_title(entry: &Entry) -> String {
+    format!("{}'s nanoseconds for a byte as texts grow", entry.name())
+}
+
 pub fn growth(entry: &Entry, sizes: &[usize], texts: &[Text], growth: &[Vec<f64>]) {
     let sizes = sizes.iter().map(|size| format!("{} KiB", size >> 10));
     let columns: Vec<String> = sizes.chain(["growth".into()]).collect();
-    head(&format!("{}'s nanoseconds for a byte as texts grow", entry.name()), "text", &columns);
+    head(&growth_title(entry), "text", &columns);
     for (text, kind) in texts.iter().zip(growth) {
         let times = kind.iter().map(|time| format!("{time:.3}"));
         row(text.name, times.chain([format!("{:.2}", growth_of(kind))]));
