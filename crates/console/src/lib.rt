@@ -1,0 +1,11 @@
+// What the two programs share: texts of up to 1,024 bytes, and how an answer is shown.
+pub mod file;
+pub mod show;
+
+// The most bytes of a text, and room to see that one has more.
+pub const LONGEST: usize = 1024;
+
+pub const ROOM: usize = LONGEST + 1;
+
+// The words of a table that is never too short for such a text.
+pub const WORDS: usize = 4 * LONGEST;
