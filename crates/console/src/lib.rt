@@ -1,6 +1,8 @@
-// What the two programs share: texts of up to 1,024 bytes, and how an answer is shown.
+// What programs share: texts of up to 1,024 bytes, how an answer is shown, and what is said of a comparison.
 pub mod file;
+pub mod front;
 pub mod show;
+pub mod verdict;
 
 // The most bytes of a text, and room to see that one has more.
 pub const LONGEST: usize = 1024;

@@ -1,4 +1,5 @@
 // An answer on standard output.
+use crate::front::front;
 use libc::STDOUT_FILENO;
 use reader::answer::Answer;
 
@@ -6,7 +7,7 @@ use reader::answer::Answer;
 // named, and place; then a line feed.
 pub fn show(a: Answer, out: &[u8], name_input: bool) {
     if a.number == 0 {
-        show_front(out, a.count);
+        io::write_all(STDOUT_FILENO, front(out, a.count));
     } else {
         show_number(b"refused ", a.number);
         if name_input {
@@ -17,17 +18,8 @@ pub fn show(a: Answer, out: &[u8], name_input: bool) {
     io::write_all(STDOUT_FILENO, b"\n");
 }
 
-fn show_number(before: &[u8], n: u32) {
+// Writes `before` and the digits of `n`.
+pub fn show_number(before: &[u8], n: u32) {
     io::write_all(STDOUT_FILENO, before);
     io::print_decimal(STDOUT_FILENO, n as u64);
-}
-
-// Writes the first `n` bytes of `s`, all where it has fewer.
-fn show_front(s: &[u8], n: u32) {
-    let k = n as usize;
-    if s.len() < k {
-        io::write_all(STDOUT_FILENO, s);
-        return;
-    }
-    io::write_all(STDOUT_FILENO, &s[0..k]);
 }

@@ -2,6 +2,8 @@
 // has target, patch and what is written, and `ok` where that is the canonical text of the result that the
 // RFC or 01 gives, or `WRONG`.
 use check::same;
+use console::front::front;
+use console::verdict::verdict;
 use nibrocate::merge::merge;
 use nibrocate::write::write;
 
@@ -9,23 +11,6 @@ use nibrocate::write::write;
 const BYTES: usize = 32;
 
 const WORDS: usize = 128;
-
-// The first `n` bytes of `s`, all where it has fewer.
-fn front(s: &[u8], n: u32) -> &[u8] {
-    let k = n as usize;
-    if s.len() < k {
-        return s;
-    }
-    &s[0..k]
-}
-
-fn verdict(right: bool) {
-    if right {
-        io::write_all(1, b": ok\n");
-    } else {
-        io::write_all(1, b": WRONG\n");
-    }
-}
 
 // Writes the merge of `target` with `patch`, and compares it with the canonical text of `result`.
 fn merged(target: &[u8], patch: &[u8], result: &[u8]) {

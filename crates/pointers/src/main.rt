@@ -2,6 +2,7 @@
 // Each line has a pointer, what it gives, and `ok` where that is what the RFC or 01 says, byte for byte,
 // or `WRONG`.
 use check::same;
+use console::verdict::verdict;
 use nibrocate::find::find;
 use nibrocate::part::part;
 
@@ -14,14 +15,6 @@ const FOO: [u8; 26] = *b"{\"foo\":[\"bar\",\"baz\"],\"\":0}";
 
 // Four words for each byte of the longer one.
 const WORDS: usize = 448;
-
-fn verdict(right: bool) {
-    if right {
-        io::write_all(1, b": ok\n");
-    } else {
-        io::write_all(1, b": WRONG\n");
-    }
-}
 
 // Writes the record and the part found, and compares both.
 fn found(text: &[u8], pointer: &[u8], record: u32, value: &[u8]) {
