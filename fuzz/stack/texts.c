@@ -40,7 +40,7 @@ static void add_member(text *to, unsigned number) {
 
 /* The first two names have escapes, so that they are compared unit by unit, which takes calls of its own. */
 static void add_object(text *to, size_t most) {
-  add(to, "{\"\\b\":0,\"\\f\":0,");
+  add(to, "{\"\\u0001\":0,\"\\u0002\":0,");
   for (unsigned number = 0; to->length + MEMBER + 1 < most; number++) add_member(to, number);
   to->at[to->length - 1] = '}';
 }

@@ -16,6 +16,7 @@ mod spaces;
 mod strings;
 pub mod tables;
 mod twins;
+mod vectors;
 
 use crate::group::Test;
 
@@ -37,5 +38,5 @@ pub fn tests() -> Vec<Test> {
         &fences::TESTS,
         &long::TESTS,
     ];
-    kinds.concat()
+    [kinds.concat(), vectors::tests()].concat()
 }
