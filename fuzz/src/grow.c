@@ -45,7 +45,7 @@ static bytes nested(uint8_t *at, bytes text, size_t depth) {
 
 bytes grown(slot which, bytes text, uint8_t growth) {
   uint8_t *at = memory[which];
-  if (growth < GROWN || text.length == 0 || text.length > SMALL) return text;
+  if (growth < SMALL_ARRAY || text.length == 0 || text.length > SMALL) return text;
   switch (growth) {
     case SMALL_ARRAY: return repeated(at, text, SMALL, false);
     case SMALL_OBJECT: return repeated(at, text, SMALL, true);
@@ -59,7 +59,7 @@ bytes grown(slot which, bytes text, uint8_t growth) {
 }
 
 bytes grown_pointer(bytes pointer, uint8_t growth, uint8_t over) {
-  if (growth != TOO_LONG || pointer.length == 0) return pointer;
+  if (growth != LONG_POINTER || pointer.length == 0) return pointer;
   size_t length = NIB_POINTER_BYTES + over % 4;
   for (size_t at = 0; at < length; at++) pointer_memory[at] = pointer.at[at % pointer.length];
   return (bytes){pointer_memory, length};

@@ -8,9 +8,19 @@
 enum { FIRST_TABLE, SECOND_TABLE, OUTPUT, GROWTH, CONTROLS };
 enum { SEPARATOR = 0xFE };
 
-/* Values of the growth byte; below the first of them a text is taken as it stands. */
-enum { GROWN = 0xF8 };
-enum { SMALL_ARRAY = GROWN, SMALL_OBJECT, LARGE_ARRAY, LARGE_OBJECT, TOO_LONG, LONGEST_ALLOWED, NESTED, TOO_DEEP };
+/* Values of the growth byte; below the first of them all is taken as it stands. */
+enum { GROWN = 0xF7 };
+enum {
+  LONG_POINTER = GROWN,
+  SMALL_ARRAY,
+  SMALL_OBJECT,
+  LARGE_ARRAY,
+  LARGE_OBJECT,
+  TOO_LONG,
+  LONGEST_ALLOWED,
+  NESTED,
+  TOO_DEEP
+};
 
 typedef struct {
   bytes target, patch, pointer;

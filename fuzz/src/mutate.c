@@ -11,7 +11,7 @@ size_t LLVMFuzzerCustomMutator(uint8_t *data, size_t size, size_t max_size, unsi
 /* One run in RARELY makes a text large, and one of those in SELDOM one of a mebibyte, since such runs take long. */
 enum { RARELY = 2000, SELDOM = 20, LONGEST_SPAN = 256 };
 
-static const uint8_t MODERATE[] = {SMALL_ARRAY, SMALL_OBJECT, NESTED, TOO_DEEP};
+static const uint8_t MODERATE[] = {LONG_POINTER, SMALL_ARRAY, SMALL_OBJECT, NESTED, TOO_DEEP};
 
 static const char *const TOKENS[] = {
     "{", "}", "[", "]", ":", ",", "\"", "\\", "/", "~0", "~1", "~", " ", "\t", "\n", "\r", "null", "true", "false",
@@ -96,7 +96,7 @@ static size_t mutate_once(uint8_t *data, size_t size, size_t max, unsigned *stat
 
 static uint8_t growth(unsigned *state) {
   if (chance(state, SELDOM)) return MODERATE[chance(state, sizeof MODERATE)];
-  return (uint8_t)(GROWN + chance(state, 8));
+  return (uint8_t)(GROWN + chance(state, TOO_DEEP - GROWN + 1));
 }
 
 size_t LLVMFuzzerCustomMutator(uint8_t *data, size_t size, size_t max_size, unsigned seed) {
