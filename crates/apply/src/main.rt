@@ -1,5 +1,9 @@
 // Merges `patch.json` into `target.json`, both in the folder it is run in, and writes the canonical text of
 // the result, or `refused N in I at P`, and a line feed.
+ghost use Prim.Native.Nat.{_*_, _≤_};
+ghost use Rattle.console.specs.Programs.{Apply, Given, longest};
+ghost use Rattle.reader.specs.Answers.{answerOf};
+ghost use lib.ListN.{length};
 use console::LONGEST;
 use console::ROOM;
 use console::WORDS;
@@ -15,7 +19,11 @@ const OUT: usize = 12 * LONGEST;
 
 // The answer to target and patch, whose merge is put at the front of `out`. All of the target is judged
 // before the length of the patch.
-fn apply(target: &[u8], patch: &[u8], out: &mut [u8]) -> Answer {
+fn apply(target: &[u8], patch: &[u8], out: &mut [u8]) -> Answer
+    requires { ⌜ 12 * longest ≤ length (now out) ⌝ }
+    ensures apply { λ r. ⌜ Apply (now (target .entry)) (now (patch .entry)) (now (out .entry)) (answerOf r) (now (out .exit)) ⌝ }
+    ensures given { λ r. ⌜ Given (r .number) ⌝ }
+{
     if target.len() > LONGEST {
         return refusal(1, 1, 0);
     }

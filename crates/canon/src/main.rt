@@ -1,4 +1,8 @@
 // Reads a text from standard input and writes its canonical text, or `refused N at P`, and a line feed.
+ghost use Prim.Native.Nat.{_*_, _≤_};
+ghost use Rattle.console.specs.Programs.{Canon, Given, longest};
+ghost use Rattle.reader.specs.Answers.{answerOf};
+ghost use lib.ListN.{length};
 use console::LONGEST;
 use console::ROOM;
 use console::WORDS;
@@ -12,7 +16,11 @@ use reader::answer::refusal;
 const OUT: usize = 6 * LONGEST;
 
 // The answer to `text`, whose canonical text is put at the front of `out`.
-fn canon(text: &[u8], out: &mut [u8]) -> Answer {
+fn canon(text: &[u8], out: &mut [u8]) -> Answer
+    requires { ⌜ 6 * longest ≤ length (now out) ⌝ }
+    ensures canon { λ r. ⌜ Canon (now (text .entry)) (now (out .entry)) (answerOf r) (now (out .exit)) ⌝ }
+    ensures given { λ r. ⌜ Given (r .number) ⌝ }
+{
     if text.len() > LONGEST {
         return refusal(1, 1, 0);
     }

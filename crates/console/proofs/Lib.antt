@@ -1,0 +1,2 @@
+pub mod MergeWidth
+pub mod Given

@@ -1,0 +1,2 @@
+-- What the two programs answer.
+pub mod Programs
