@@ -1,11 +1,10 @@
 -- A program's table and output are long enough: of the numbers 2, 12 and 13 it gives none.
 use Prim.Native.Nat.{_*_, _+_, _≤_, ℕ}
-use Rattle.console.proofs.MergeWidth.{six-times-both}
 use Rattle.console.specs.Programs.{Apply, Canon, Given, Wide, longest}
 use Rattle.entries.proofs.Readings.{ready-text}
 use Rattle.entries.specs.Answer.{Answer, Read, Reading, Writing}
 use Rattle.entries.specs.Entries.{Merger, Writer}
-use Rattle.meaning.proofs.Demand2.{six-times}
+use Rattle.meaning.proofs.Demand2.{merge-six-times, six-times}
 use Rattle.text.proofs.Demand3.{number-of-refusal}
 use Rattle.text.specs.Bytes.{Bytes}
 use Rattle.text.specs.Table.{Words}
@@ -39,4 +38,4 @@ apply-given h (Apply.longPatch l g m r) = (omega arith, λ e. omega (arith, e))
 apply-given h (Apply.short l g m k (Merger.stop r)) = reading-given l m r
 apply-given h (Apply.short l g m k (Merger.stopPatch r s)) = reading-given g k s
 apply-given h (Apply.short l g m k (Merger.done r s x y)) =
-    let b = six-times-both (ready-text r) (ready-text s) x in writing-given (omega (arith, b)) (omega (arith, b)) y
+    let b = merge-six-times (ready-text r) (ready-text s) x in writing-given (omega (arith, b)) (omega (arith, b)) y

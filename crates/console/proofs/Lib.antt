@@ -1,2 +1,2 @@
-pub mod MergeWidth
+-- Of the programs: which numbers they give.
 pub mod Given
