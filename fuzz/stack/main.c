@@ -55,7 +55,8 @@ static const struct {
 } ENTRIES[] = {{"nib_read", read_it}, {"nib_write", write_it}, {"nib_find", find_it}, {"nib_part_of", part_it},
                {"nib_merge", merge_it}};
 
-/* The most over all texts, with the patch the target itself or the next text. A text that isn't read measures nothing. */
+/* The most over all texts, the patch being the target itself or the next text. A text that isn't read measures
+ * nothing. */
 static size_t most_of(void (*call)(void *), const text *texts, text pointer) {
   size_t most = 0;
   for (int pair = 0; pair < TEXTS * TEXTS; pair++) {
