@@ -60,7 +60,7 @@ bytes grown(slot which, bytes text, uint8_t growth) {
 
 bytes grown_pointer(bytes pointer, uint8_t growth, uint8_t over) {
   if (growth != LONG_POINTER || pointer.length == 0) return pointer;
-  size_t length = NIB_POINTER_BYTES + over % 4;
+  size_t length = NIB_POINTER_BYTES + (over + 1) % 4;
   for (size_t at = 0; at < length; at++) pointer_memory[at] = pointer.at[at % pointer.length];
   return (bytes){pointer_memory, length};
 }

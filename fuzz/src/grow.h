@@ -8,7 +8,7 @@
  * whitespace up to a ceiling or over it. */
 bytes grown(slot which, bytes text, uint8_t growth);
 
-/* The pointer as it is, or repeated up to its ceiling and this many bytes, modulo 4, over it. */
+/* The pointer as it is, or repeated up to its ceiling and as many bytes over it as the control byte says. */
 bytes grown_pointer(bytes pointer, uint8_t growth, uint8_t over);
 
 #endif
