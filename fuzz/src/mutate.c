@@ -8,7 +8,7 @@
 size_t LLVMFuzzerMutate(uint8_t *data, size_t size, size_t max_size);
 size_t LLVMFuzzerCustomMutator(uint8_t *data, size_t size, size_t max_size, unsigned seed);
 
-/* One run in RARELY makes a text large, and one of those in SELDOM one of a mebibyte, since such runs take long. */
+/* One run in RARELY makes something larger, and one of those in SELDOM perhaps a mebibyte, since that takes long. */
 enum { RARELY = 2000, SELDOM = 20, LONGEST_SPAN = 256 };
 
 static const uint8_t MODERATE[] = {LONG_POINTER, SMALL_ARRAY, SMALL_OBJECT, NESTED, TOO_DEEP};
