@@ -10,6 +10,7 @@
  * What it asks of the caller: each address leads to as many elements as the length beside it says, a table is aligned
  * as uint32_t is, and a table or an output overlaps nothing else that is lent to the same call. A null address with
  * length 0 is fine. What is only read may overlap: a JSON pointer may be a part of the text, and a patch the target.
+ * A call takes less than 32 KiB of stack, which is measured and not proved.
  */
 #ifndef NIBROCATE_H
 #define NIBROCATE_H
