@@ -4,7 +4,7 @@ use Rattle.lookup.proofs.Passing.{Rest, Seat, first-seat, onward, other
 use Rattle.lookup.specs.Inside.{Inside, Listed}
 use Rattle.lookup.specs.Steps.{Stepped, nowhere}
 use Rattle.meaning.specs.Lookup.{Seen, byName}
-use Rattle.members.proofs.Naming.{rest-whole}
+use Rattle.names.proofs.Comparing.{rest-whole}
 use Rattle.members.specs.Names.{nameAt}
 use Rattle.members.specs.Records.{nextOf, word}
 use Rattle.names.specs.Units.{units}

@@ -1,14 +1,14 @@
 -- Names and their first bytes.
 use Prim.Native.Char.{code}
-use Prim.Native.Nat.{_+_, _-_, _<_, suc, ℕ}
+use Prim.Native.Nat.{_+_, _<_, suc, ℕ}
 use Rattle.members.proofs.Ordering.{clash}
 use Rattle.members.specs.Names.{Onward}
 use Rattle.names.specs.Units.{units}
 use Rattle.text.specs.Bytes.{Bytes, Units}
 use borrow.Author.Tests.{eqb-false, eqb-true, ne-eqb, not-true}
 use lib.Dec.{eqb}
-use lib.ListN.{drop, getD, length, length-drop, take}
-use lib.Seq.{drop-cons, take-all}
+use lib.ListN.{drop, getD, length}
+use lib.Seq.{drop-cons}
 use mathlib.Core.Bool.{Bool, _&&_, cond, false, not, true}
 use mathlib.Core.List.{[], _∷_}
 use mathlib.Core.Path.{_∙_, _≡_, ap, refl, sym}
@@ -64,7 +64,3 @@ begin-alike t i j h k e f z =
     let a : units (drop i t) ≡ x ∷ units (drop (i + 1) t) = ap units (drop-cons t i 0 h) ∙ plain-first x (drop (suc i) t) quote slash ∙ ap (λ n. x ∷ units (drop n t)) (sym (add-one i)) in
     let b : units (drop j t) ≡ x ∷ units (drop (j + 1) t) = ap units (drop-cons t j 0 k ∙ ap (λ y. y ∷ drop (suc j) t) same) ∙ plain-first x (drop (suc j) t) quote slash ∙ ap (λ n. x ∷ units (drop n t)) (sym (add-one j)) in
     f (rest-same (sym a ∙ z ∙ b))
-
--- A part up to the end is the rest.
-pub rest-whole : (t : Bytes) (i : ℕ) → take (length t - i) (drop i t) ≡ drop i t
-rest-whole t i = take-all (length t - i) (drop i t) (simp length-drop (omega arith))

@@ -7,7 +7,7 @@ ghost use lib.Dec.{eqb};
 ghost use lib.ListN.{drop, length};
 ghost use mathlib.Core.Bool.{true};
 ghost use mathlib.Core.Path.{_≡_};
-use names::compare::compare;
+use names::compare::compare_from;
 
 // 0 if the name whose opening quote stands at `p` comes before the one at `q`, 1 if they are equal, 2 if
 // it comes behind it.
@@ -15,9 +15,7 @@ pub fn compare_at(text: &[u8], p: usize, q: usize) -> u64
     requires { ⌜ (p < length (now text)) × (q < length (now text)) ⌝ }
     ensures { λ z. ⌜ z ≡ order (nameAt (now (text .entry)) p) (nameAt (now (text .entry)) q) ⌝ }
 {
-    let i = p + 1;
-    let j = q + 1;
-    compare(&text[i..], &text[j..])
+    compare_from(text, p + 1, text, q + 1)
 }
 
 // Whether the characters from `i` on and those from `j` on differ in their first bytes.

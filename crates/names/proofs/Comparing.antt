@@ -1,6 +1,6 @@
 -- What the bytes and units of two names say of their order.
 use Prim.Native.Char.{code}
-use Prim.Native.Nat.{ℕ, _<_, _≤_}
+use Prim.Native.Nat.{ℕ, _-_, _<_, _≤_}
 use Rattle.names.proofs.Order.{order-less, order-more, order-same}
 use Rattle.names.proofs.Reading.{units-plain, units-quote}
 use Rattle.names.specs.Order.{order}
@@ -9,7 +9,8 @@ use Rattle.names.specs.Units.{units}
 use Rattle.text.specs.Bytes.{Bytes, Units}
 use borrow.Author.Tests.{eqb-false, eqb-true, leb-false}
 use lib.Dec.{eqb, leb}
-use lib.ListN.{drop, getD, length}
+use lib.ListN.{drop, getD, length, length-drop, take}
+use lib.Seq.{take-all}
 use mathlib.Core.Bool.{Bool, _||_, cond, false, true}
 use mathlib.Core.Path.{_∙_, _≡_, refl, sym}
 use native.Mathlib.Omega.{arith}
@@ -84,3 +85,7 @@ pub both-plain : (x y : ℕ) → (eqb x y || eqb x slash || eqb y slash) ≡ fal
 both-plain x y z =
     let w = not-left (eqb x y || eqb x slash) (eqb y slash) z in
     (eqb-false x y (not-left (eqb x y) (eqb x slash) w), eqb-false x slash (not-right (eqb x y) (eqb x slash) w), eqb-false y slash (not-right (eqb x y || eqb x slash) (eqb y slash) z))
+
+-- A part up to the end is the rest.
+pub rest-whole : (t : Bytes) (i : ℕ) → take (length t - i) (drop i t) ≡ drop i t
+rest-whole t i = take-all (length t - i) (drop i t) (simp length-drop (omega arith))

@@ -1,7 +1,7 @@
 // The order of two names.
-ghost use lib.ListN.{drop};
+ghost use lib.ListN.{drop, length};
 ghost use mathlib.Core.Path.{_≡_};
-ghost use Prim.Native.Nat.{_<_};
+ghost use Prim.Native.Nat.{_<_, _≤_};
 ghost use Rattle.names.specs.Order.{order};
 ghost use Rattle.names.specs.Steps.{Opens, codeOf, endCode};
 ghost use Rattle.names.specs.Units.{units};
@@ -62,7 +62,7 @@ fn by_units(a: &[u8], b: &[u8], from: usize) -> u64
 
 // 0 if the name whose characters begin `a` stands before the one whose characters begin `b`, 1 if they
 // are equal, 2 if it stands behind it.
-pub fn compare(a: &[u8], b: &[u8]) -> u64
+fn compare(a: &[u8], b: &[u8]) -> u64
     ensures { λ r. ⌜ r ≡ order (units (now (a .entry))) (units (now (b .entry))) ⌝ }
 {
     let i = alike(a, b);
@@ -75,4 +75,13 @@ pub fn compare(a: &[u8], b: &[u8]) -> u64
         return by_units(a, b, i);
     }
     by_first(code_of(x), code_of(y))
+}
+
+// The same of the names whose characters begin at `i` of `a` and at `j` of `b`. Whole slices that are lent
+// on cost less than parts of them.
+pub fn compare_from(a: &[u8], i: usize, b: &[u8], j: usize) -> u64
+    requires { ⌜ (i ≤ length (now a)) × (j ≤ length (now b)) ⌝ }
+    ensures { λ r. ⌜ r ≡ order (units (drop i (now (a .entry)))) (units (drop j (now (b .entry)))) ⌝ }
+{
+    compare(&a[i..], &b[j..])
 }

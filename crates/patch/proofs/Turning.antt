@@ -1,6 +1,5 @@
 -- Whose member comes next, and which records and counts are left behind it.
 use Prim.Native.Nat.{ℕ, _*_, _+_, _-_, _<_, _≤_}
-use Rattle.members.proofs.Naming.{rest-whole}
 use Rattle.members.specs.Links.{linkOf}
 use Rattle.members.specs.Names.{Named, nameOf}
 use Rattle.members.specs.Records.{word}
@@ -12,7 +11,7 @@ use Rattle.text.specs.Bytes.{Bytes, Units}
 use Rattle.text.specs.Table.{Words, recordWords}
 use borrow.Author.Tests.{eq-eqb, ne-eqb}
 use lib.Dec.{eqb}
-use lib.ListN.{drop, length, take}
+use lib.ListN.{drop, length}
 use mathlib.Core.Bool.{Bool, cond, false, true}
 use mathlib.Core.Path.{_∙_, _≡_, ap, ap₂, sym}
 use native.Mathlib.Omega.{arith}
@@ -45,12 +44,12 @@ turn-order : (i j : ℕ) (a b : Units) → (j ≡ 0 → ⊥) → (i ≡ 0 → �
 turn-order i j a b n m = ap (λ q. cond q 2 (order a b)) (sym (ne-eqb i 0 m)) ∙ turn-some i j a b n
 
 -- The rest of a text behind an opening quote begins with the name.
-rest-name : (t : Bytes) (w : Words) (x : ℕ) {m : ℕ} → m ≡ word w x 2 → units (take (length t - (m + 1)) (drop (m + 1) t)) ≡ nameOf t w x
+rest-name : (t : Bytes) (w : Words) (x : ℕ) {m : ℕ} → m ≡ word w x 2 → units (drop (m + 1) t) ≡ nameOf t w x
 unfolding nameOf
-rest-name t w x {m} e = ap units (rest-whole t (m + 1)) ∙ ap (λ q. units (drop (q + 1) t)) e
+rest-name t w x e = ap (λ q. units (drop (q + 1) t)) e
 
 pub turn-names : (i j : ℕ) (t p : Bytes) (w u : Words) (x y : ℕ) {m n z : ℕ} → (j ≡ 0 → ⊥) → (i ≡ 0 → ⊥) → m ≡ word w x 2 → n ≡ word u y 2
-    → z ≡ order (units (take (length t - (m + 1)) (drop (m + 1) t))) (units (take (length p - (n + 1)) (drop (n + 1) p))) → z ≡ turnOf i j (nameOf t w x) (nameOf p u y)
+    → z ≡ order (units (drop (m + 1) t)) (units (drop (n + 1) p)) → z ≡ turnOf i j (nameOf t w x) (nameOf p u y)
 turn-names i j t p w u x y g h e f o = o ∙ ap₂ order (rest-name t w x e) (rest-name p u y f) ∙ turn-order i j (nameOf t w x) (nameOf p u y) g h
 
 -- What a patch's member is merged with.

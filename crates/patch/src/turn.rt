@@ -8,7 +8,7 @@ ghost use mathlib.Core.Path.{_≡_};
 use crate::enter::NO_RECORD;
 use members::link::link;
 use members::record::word_at;
-use names::compare::compare;
+use names::compare::compare_from;
 
 // With `i` members of the target to come, the next at record `x`, and `j` of the patch, the next at record
 // `y`: 0 if the target's comes next, 1 if both have its name, 2 if the patch's does.
@@ -33,7 +33,7 @@ pub fn turn(
     }
     let p = word_at(olds, x, 2) + 1;
     let q = word_at(news, y, 2) + 1;
-    compare(&target[p..], &patch[q..])
+    compare_from(target, p, patch, q)
 }
 
 // The record that the patch's member is merged with in turn `z`, where the target's next is `x`.

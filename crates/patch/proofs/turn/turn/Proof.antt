@@ -1,7 +1,6 @@
 use Rattle.patch.proofs.Turning.{turn-names, turn-patch, turn-quote, turn-room, turn-target}
 use Rattle.patch.proofs.turn.turn.Statement.{statement}
 use Rattle.patch.proofs.turn.turn.Tie as tie
-use borrow.Author.Needs.{needs}
 use native.Mathlib.Omega.{arith}
 
 returns : tie.Need-returns
@@ -22,29 +21,17 @@ word-at-requires-2 c κs = let s = c .before .before .before .before .before .be
 add-q : tie.Need-add-q
 add-q c = let s = c .before .before .before .before .before .before .before .before in omega (arith, turn-quote (s .args .patch .now) (s .args .news .now) (s .args .y) (s .pre .1) (c .before .before .before .if1 .left) (c .word-at2 .ensures))
 
-sub-compare : tie.Need-sub-compare
-sub-compare c = let s = c .before .before .before .before .before .before .before .before in turn-quote (s .args .target .now) (s .args .olds .now) (s .args .x) (s .pre .0) (c .before .before .if2 .left) (c .before .word-at .ensures)
-
-part-compare-start : tie.Need-part-compare-start
-part-compare-start c = let s = c .before .before .before .before .before .before .before .before in turn-quote (s .args .target .now) (s .args .olds .now) (s .args .x) (s .pre .0) (c .before .before .if2 .left) (c .before .word-at .ensures)
-
-part-compare-end : tie.Need-part-compare-end
-part-compare-end c = search needs
-
-sub-compare-2 : tie.Need-sub-compare-2
-sub-compare-2 c = let s = c .before .before .before .before .before .before .before .before .before in turn-quote (s .args .patch .now) (s .args .news .now) (s .args .y) (s .pre .1) (c .before .before .before .before .if1 .left) (c .before .word-at2 .ensures)
-
-part-compare-start-2 : tie.Need-part-compare-start-2
-part-compare-start-2 c = let s = c .before .before .before .before .before .before .before .before .before in turn-quote (s .args .patch .now) (s .args .news .now) (s .args .y) (s .pre .1) (c .before .before .before .before .if1 .left) (c .before .word-at2 .ensures)
-
-part-compare-end-2 : tie.Need-part-compare-end-2
-part-compare-end-2 c = search needs
-
-compare-requires : tie.Need-compare-requires
-compare-requires c κs = search needs
+compare-from-requires : tie.Need-compare-from-requires
+compare-from-requires c κs =
+    let s = c .before .before .before .before .before .before .before .before in (
+      turn-quote (s .args .target .now) (s .args .olds .now) (s .args .x) (s .pre .0) (c .before .before .if2 .left) (c .before .word-at .ensures),
+      turn-quote (s .args .patch .now) (s .args .news .now) (s .args .y) (s .pre .1) (c .before .before .before .if1 .left) (c .word-at2 .ensures),
+    )
 
 returns-3 : tie.Need-returns-3
-returns-3 c = let s = c .before .before .before .before .before .before .before .before .before .before .before in turn-names (s .args .i) (s .args .j) (s .args .target .now) (s .args .patch .now) (s .args .olds .now) (s .args .news .now) (s .args .x) (s .args .y) (c .before .before .before .before .before .before .if1 .left) (c .before .before .before .before .before .if2 .left) (c .before .before .before .before .word-at .ensures) (c .before .before .before .word-at2 .ensures) (c .compare .ensures)
+returns-3 c =
+    let s = c .before .before .before .before .before .before .before .before .before in
+    turn-names (s .args .i) (s .args .j) (s .args .target .now) (s .args .patch .now) (s .args .olds .now) (s .args .news .now) (s .args .x) (s .args .y) (c .before .before .before .before .if1 .left) (c .before .before .before .if2 .left) (c .before .before .word-at .ensures) (c .before .word-at2 .ensures) (c .compare-from .ensures)
 
 pub turn-spec : {M : Type 1} → statement M
 turn-spec =
@@ -56,11 +43,5 @@ turn-spec =
     add-p
     word-at-requires-2
     add-q
-    sub-compare
-    part-compare-start
-    part-compare-end
-    sub-compare-2
-    part-compare-start-2
-    part-compare-end-2
-    compare-requires
+    compare-from-requires
     returns-3)

@@ -1,14 +1,7 @@
-use Prim.Native.Nat.{_+_}
-use Rattle.members.proofs.Naming.{rest-whole}
-use Rattle.members.proofs.name.compare_at.Statement.{statement}
-use Rattle.members.proofs.name.compare_at.Tie as tie
+use Rattle.names.proofs.Comparing.{rest-whole}
+use Rattle.names.proofs.compare.compare_from.Statement.{statement}
+use Rattle.names.proofs.compare.compare_from.Tie as tie
 use borrow.Author.Needs.{needs}
-
-add-i : tie.Need-add-i
-add-i c = search needs
-
-add-j : tie.Need-add-j
-add-j c = search needs
 
 sub-compare : tie.Need-sub-compare
 sub-compare c = search needs
@@ -33,17 +26,13 @@ compare-requires c κs = search needs
 
 returns : tie.Need-returns
 returns c =
-    let t = c .before .before .before .before .args .text .now in
-    let p = c .before .before .before .before .args .p in
-    let q = c .before .before .before .before .args .q in
-    rw (← rest-whole t (p + 1), ← rest-whole t (q + 1)) (c .compare .ensures)
+    let s = c .before .before .before .before .before .args in
+    rw (← rest-whole (s .a .now) (s .i), ← rest-whole (s .b .now) (s .j)) (c .compare .ensures)
 
-pub compare-at-spec : {M : Type 1} → statement M
-compare-at-spec =
+pub compare-from-spec : {M : Type 1} → statement M
+compare-from-spec =
     tie.close
     (tie.spec
-    add-i
-    add-j
     sub-compare
     part-compare-start
     part-compare-end
