@@ -10,4 +10,5 @@ pub mod Opening
 pub mod Going
 pub mod Turning
 pub mod Keeping
+pub mod Lengths
 pub mod Answering
