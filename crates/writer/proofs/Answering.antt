@@ -1,5 +1,5 @@
 -- What the writer answers, in the terms of the entries.
-use Prim.Native.Nat.{_*_, _<_, _≤_, ℕ}
+use Prim.Native.Nat.{_*_, _≤_}
 use Rattle.entries.specs.Answer.{Read, Reading, Writing, maxText}
 use Rattle.entries.specs.Entries.{Writer}
 use Rattle.meaning.proofs.Demand2.{canonical-of, six-times}
@@ -7,14 +7,12 @@ use Rattle.meaning.proofs.Reading.{text-keeps}
 use Rattle.meaning.specs.Canonical.{Canonical}
 use Rattle.meaning.specs.Meaning.{meaning}
 use Rattle.reader.proofs.Answering.{ready, stopped}
-use Rattle.reader.specs.Answers.{ReadAs, answerOf, answered}
+use Rattle.reader.specs.Answers.{ReadAs, answerOf}
 use Rattle.reader.specs.declared.answer.Answer.{Answer}
-use Rattle.spell.specs.Puts.{Puts}
 use Rattle.text.specs.Bytes.{Bytes}
 use Rattle.text.specs.Node.{Node}
 use Rattle.text.specs.Table.{Words}
 use Rattle.values.proofs.Holding.{reading-held}
-use Rattle.writer.proofs.Lengths.{too-long, too-narrow, well-written}
 use Rattle.writer.specs.Writes.{Writes, textOf}
 use lib.ListN.{length}
 use mathlib.Core.Path.{_≡_, refl, subst⁻¹}
@@ -44,15 +42,9 @@ module _ {t : Bytes} {w w′ : Words} {a : Answer} where
   pub refused : (o : Bytes) → ReadAs 1 t w w′ a → (a .number ≡ 0 → ⊥) → Writer t w o (answerOf a) w′ o
   refused o r e = Writer.stop (stopped r e)
 
-module _ {t : Bytes} {w w′ : Words} (p : Accepted t w w′) {n : ℕ} (e : n ≡ length (textOf (p .value))) (o : Bytes) {r : Answer} where
-  wrote : {o′ : Bytes} → Writing (textOf (p .value)) o (answerOf r) o′ → Writer t w o (answerOf r) w′ o′
-  wrote = Writer.done (p .reading) (p .canonical)
+module _ {t : Bytes} {w w′ : Words} (p : Accepted t w w′) where
+  pub write-asks : (length t ≤ maxText) × ((c : Bytes) × Writes t w′ 0 0 c × (length c ≤ 6 * length t))
+  write-asks = (p .short, (_, p .writes, p .small))
 
-  pub long : maxText < n → r ≡ answered 13 3 n 0 → Writer t w o (answerOf r) w′ o
-  long l f = wrote (too-long e o l f)
-
-  pub narrow : n ≤ maxText → length o < n → r ≡ answered 12 3 n 0 → Writer t w o (answerOf r) w′ o
-  narrow l m f = wrote (too-narrow e o l m f)
-
-  pub written : {k : ℕ} {w″ : Words} {o′ : Bytes} → w″ ≡ w′ → n ≤ maxText → n ≤ length o → Puts (textOf (p .value)) o k o′ → r ≡ answered 0 0 0 n → Writer t w o (answerOf r) w″ o′
-  written {o′ = o′} g l m q f = subst⁻¹ (λ w′. Writer t w o (answerOf r) w′ o′) g (wrote (well-written e o l m (q .now) f))
+  pub wrote : {o o′ : Bytes} {r : Answer} {w″ : Words} → ((c : Bytes) → Writes t w′ 0 0 c → Writing c o (answerOf r) o′) → w″ ≡ w′ → Writer t w o (answerOf r) w″ o′
+  wrote {o} {o′} {r} f g = subst⁻¹ (λ w′. Writer t w o (answerOf r) w′ o′) g (Writer.done (p .reading) (p .canonical) (f _ (p .writes)))
