@@ -1,15 +1,18 @@
-/* Nibrocate: reads JSON texts into a lent table, writes them canonically, looks values up by JSON pointer, and applies
- * merge patches. Link with libnibrocate.a.
+/* Nibrocate: reads JSON texts (RFC 8259, in ASCII and without a byte order mark) into a lent table, writes them
+ * canonically, looks values up by JSON pointer, and applies merge patches. Link with libnibrocate.a.
  *
  * Promises of every function here:
  * - It takes any bytes, of any length, and any length of table and output. No input is forbidden, none is undefined.
  * - It never reads or writes outside the slices it is lent, and never writes to a text or a JSON pointer.
  * - It allocates nothing, keeps no state between calls, always returns, and may be called from many threads at once.
- * - Its answer and the whole content of each lent slice at exit depend only on what the slices held at entry.
+ * - Its answer depends only on the bytes of the texts and the JSON pointer and on all lengths: nothing has to be put
+ *   into a table or an output first, and each call reads its texts anew. What a table or an output holds at exit
+ *   depends on these, and on its own content only where it is said to be as at entry.
  *
  * What it asks of the caller: each address leads to as many elements as the length beside it says, a table is aligned
- * as uint32_t is, and a table or an output overlaps nothing else that is lent to the same call. A null address with
- * length 0 is fine. What is only read may overlap: a JSON pointer may be a part of the text, and a patch the target.
+ * as uint32_t is, and a table or an output overlaps nothing else that is lent to the same call; and until the call
+ * returns, no other thread writes to anything lent, or reads a table or an output. A null address with length 0 is
+ * fine. What is only read may overlap: a JSON pointer may be a part of the text, and a patch the target.
  * A call takes less than 32 KiB of stack, which is measured and not proved.
  */
 #ifndef NIBROCATE_H
@@ -41,7 +44,7 @@ enum {
   NIB_UNFINISHED = 3,         /* a text ends too early, but could be continued; place is its length */
   NIB_WRONG_BYTE = 4,         /* a byte that can't stand there, for no reason below; for 4 to 9, place is its offset */
   NIB_TOO_DEEP = 5,           /* a bracket that would open a 65th container */
-  NIB_TOO_MANY_DIGITS = 6,    /* a number with over 18 digits before and behind the point together */
+  NIB_TOO_MANY_DIGITS = 6,    /* a digit behind 18 digits, the point between them or not, or a point behind them */
   NIB_EXPONENT = 7,           /* over 3 exponent digits, or a normal exponent outside -999 to 999 */
   NIB_NAME_TWICE = 8,         /* the closing quote of a name that the same object already has, escapes resolved */
   NIB_NOT_ASCII = 9,          /* a byte of 80 (hex) or more as a character of a string */
@@ -92,7 +95,8 @@ nib_answer nib_read(const uint8_t *text, size_t text_len, uint32_t *table, size_
  *
  * Where several refusals apply, those of nib_read go first, then 13, then 12; so 13 is given even where the output
  * could hold the result. An output of length 0 asks for the length: where nothing else is refused, the answer is 12
- * with the length needed as its place.
+ * with the length needed as its place. 12 can't appear where out_len is at least NIB_TEXT_BYTES, or at least
+ * NIB_CANONICAL_GROWTH x text_len.
  *
  * The table at exit is as nib_read leaves it; in 12 and 13, as in success, it holds the records of the text.
  * The output at exit:

@@ -8,7 +8,7 @@ use Rattle.meaning.proofs.Order.{Placed, place}
 use Rattle.meaning.proofs.Sorting.{above-none, above-trans, canon, mean-canon, sorted-canon, sorted-one}
 use Rattle.meaning.specs.Meaning.{Maybe, Meaning, Pairs, Tree, at, mean}
 use Rattle.meaning.specs.Merge.{isNull, membersOf, merge}
-use Rattle.meaning.specs.Order.{Above, Sorted, SortedPairs}
+use Rattle.meaning.specs.Order.{BeforeAll, Sorted, SortedPairs}
 use Rattle.text.specs.Bytes.{Units}
 use Rattle.text.specs.Node.{Literal}
 use mathlib.Core.Bool.{Bool, false, true, true≢false}
@@ -34,11 +34,11 @@ mutual
   -- The least name of both comes first: the target's alone, the patch's alone, or of both.
   pub data Side : Pairs → Pairs → Pairs → Type 0 where
     end : Side Pairs.empty Pairs.empty Pairs.empty
-    keep : {k : Units} {t : Tree} {ps qs rs : Pairs} → Above k ps → Above k qs → Side ps qs rs → Side (Pairs.pair k t ps) qs (Pairs.pair k t rs)
-    skip : {k : Units} {p : Tree} {ps qs rs : Pairs} → Above k ps → Above k qs → isNull p ≡ true → Side ps qs rs → Side ps (Pairs.pair k p qs) rs
-    new : {k : Units} {p r : Tree} {ps qs rs : Pairs} → Above k ps → Above k qs → isNull p ≡ false → Merged nothing p r → Side ps qs rs → Side ps (Pairs.pair k p qs) (Pairs.pair k r rs)
-    remove : {k : Units} {t p : Tree} {ps qs rs : Pairs} → Above k ps → Above k qs → isNull p ≡ true → Side ps qs rs → Side (Pairs.pair k t ps) (Pairs.pair k p qs) rs
-    change : {k : Units} {t p r : Tree} {ps qs rs : Pairs} → Above k ps → Above k qs → isNull p ≡ false → Merged t p r → Side ps qs rs → Side (Pairs.pair k t ps) (Pairs.pair k p qs) (Pairs.pair k r rs)
+    keep : {k : Units} {t : Tree} {ps qs rs : Pairs} → BeforeAll k ps → BeforeAll k qs → Side ps qs rs → Side (Pairs.pair k t ps) qs (Pairs.pair k t rs)
+    skip : {k : Units} {p : Tree} {ps qs rs : Pairs} → BeforeAll k ps → BeforeAll k qs → isNull p ≡ true → Side ps qs rs → Side ps (Pairs.pair k p qs) rs
+    new : {k : Units} {p r : Tree} {ps qs rs : Pairs} → BeforeAll k ps → BeforeAll k qs → isNull p ≡ false → Merged nothing p r → Side ps qs rs → Side ps (Pairs.pair k p qs) (Pairs.pair k r rs)
+    remove : {k : Units} {t p : Tree} {ps qs rs : Pairs} → BeforeAll k ps → BeforeAll k qs → isNull p ≡ true → Side ps qs rs → Side (Pairs.pair k t ps) (Pairs.pair k p qs) rs
+    change : {k : Units} {t p r : Tree} {ps qs rs : Pairs} → BeforeAll k ps → BeforeAll k qs → isNull p ≡ false → Merged t p r → Side ps qs rs → Side (Pairs.pair k t ps) (Pairs.pair k p qs) (Pairs.pair k r rs)
 
 -- What a name that neither of the rests has means behind them: nothing.
 set-null : (o : Maybe) (p : Tree) → isNull p ≡ true → set o (Maybe.some (mean p)) ≡ Maybe.none
@@ -100,13 +100,13 @@ mutual
       by (Which.other n) h f = at-other k r rs j n ∙ h ∙ ap₂ set (sym (at-other k t ps j n)) (sym (at-other k p qs j n))
 
 -- It is sorted where both are.
-side-above : {k : Units} {ps qs rs : Pairs} → Above k ps → Above k qs → Side ps qs rs → Above k rs
-side-above a b Side.end = Above.none
-side-above (Above.next x a) b (Side.keep _ _ s) = Above.next x (side-above a b s)
-side-above a (Above.next x b) (Side.skip _ _ z s) = side-above a b s
-side-above a (Above.next x b) (Side.new _ _ z m s) = Above.next x (side-above a b s)
-side-above (Above.next x a) (Above.next y b) (Side.remove _ _ z s) = side-above a b s
-side-above (Above.next x a) (Above.next y b) (Side.change _ _ z m s) = Above.next x (side-above a b s)
+side-above : {k : Units} {ps qs rs : Pairs} → BeforeAll k ps → BeforeAll k qs → Side ps qs rs → BeforeAll k rs
+side-above a b Side.end = BeforeAll.none
+side-above (BeforeAll.next x a) b (Side.keep _ _ s) = BeforeAll.next x (side-above a b s)
+side-above a (BeforeAll.next x b) (Side.skip _ _ z s) = side-above a b s
+side-above a (BeforeAll.next x b) (Side.new _ _ z m s) = BeforeAll.next x (side-above a b s)
+side-above (BeforeAll.next x a) (BeforeAll.next y b) (Side.remove _ _ z s) = side-above a b s
+side-above (BeforeAll.next x a) (BeforeAll.next y b) (Side.change _ _ z m s) = BeforeAll.next x (side-above a b s)
 
 members-sorted : {t : Tree} → Sorted t → SortedPairs (membersOf t)
 unfolding membersOf
@@ -130,23 +130,23 @@ mutual
   side-sorted (Side.change a b z m s) (SortedPairs.pair c t x) (SortedPairs.pair d p y) = SortedPairs.pair (side-above a b s) (merged-sorted m t p) (side-sorted s x y)
 
 -- One member of the patch among those of the target, where its value has a merge with any, and the others have.
-module _ {j : Units} {p : Tree} {qs : Pairs} (b : Above j qs) (f : (t : Tree) → Sorted t → (r : Tree) × Merged t p r) (g : (ps : Pairs) → SortedPairs ps → (rs : Pairs) × Side ps qs rs) where
-  alone : {ps : Pairs} → Above j ps → SortedPairs ps → (z : Bool) → isNull p ≡ z → (rs : Pairs) × Side ps (Pairs.pair j p qs) rs
+module _ {j : Units} {p : Tree} {qs : Pairs} (b : BeforeAll j qs) (f : (t : Tree) → Sorted t → (r : Tree) × Merged t p r) (g : (ps : Pairs) → SortedPairs ps → (rs : Pairs) × Side ps qs rs) where
+  alone : {ps : Pairs} → BeforeAll j ps → SortedPairs ps → (z : Bool) → isNull p ≡ z → (rs : Pairs) × Side ps (Pairs.pair j p qs) rs
   alone a x true e = let (rs, s) = g _ x in (rs, Side.skip a b e s)
   alone a x false e = let (rs, s) = g _ x in let (r, m) = f _ Sorted.literal in (Pairs.pair j r rs, Side.new a b e m s)
 
-  both : {t : Tree} {ps : Pairs} → Above j ps → Sorted t → SortedPairs ps → (z : Bool) → isNull p ≡ z → (rs : Pairs) × Side (Pairs.pair j t ps) (Pairs.pair j p qs) rs
+  both : {t : Tree} {ps : Pairs} → BeforeAll j ps → Sorted t → SortedPairs ps → (z : Bool) → isNull p ≡ z → (rs : Pairs) × Side (Pairs.pair j t ps) (Pairs.pair j p qs) rs
   both a y x true e = let (rs, s) = g _ x in (rs, Side.remove a b e s)
   both a y x false e = let (rs, s) = g _ x in let (r, m) = f _ y in (Pairs.pair j r rs, Side.change a b e m s)
 
   among : {ps : Pairs} → SortedPairs ps → (rs : Pairs) × Side ps (Pairs.pair j p qs) rs
-  among SortedPairs.empty = alone Above.none SortedPairs.empty (isNull p) refl
+  among SortedPairs.empty = alone BeforeAll.none SortedPairs.empty (isNull p) refl
   among (SortedPairs.pair {k = k} {t = t} {ps = ps} a y x) = by (place k j) (among x)
     where
       by : Placed k j → (rs : Pairs) × Side ps (Pairs.pair j p qs) rs → (rs : Pairs) × Side (Pairs.pair k t ps) (Pairs.pair j p qs) rs
-      by (Placed.ahead l) (rs, s) = (Pairs.pair k t rs, Side.keep a (Above.next l (above-trans l b)) s)
-      by (Placed.equal e) s = subst (λ i. (rs : Pairs) × Side (Pairs.pair i t ps) (Pairs.pair j p qs) rs) (sym e) (both (subst (λ i. Above i ps) e a) y x (isNull p) refl)
-      by (Placed.behind l) s = alone (Above.next l (above-trans l a)) (SortedPairs.pair a y x) (isNull p) refl
+      by (Placed.ahead l) (rs, s) = (Pairs.pair k t rs, Side.keep a (BeforeAll.next l (above-trans l b)) s)
+      by (Placed.equal e) s = subst (λ i. (rs : Pairs) × Side (Pairs.pair i t ps) (Pairs.pair j p qs) rs) (sym e) (both (subst (λ i. BeforeAll i ps) e a) y x (isNull p) refl)
+      by (Placed.behind l) s = alone (BeforeAll.next l (above-trans l a)) (SortedPairs.pair a y x) (isNull p) refl
 
 -- Sorted trees have a merge.
 mutual
@@ -168,7 +168,7 @@ mutual
     where
       rest : {ps : Pairs} → SortedPairs ps → (rs : Pairs) × Side ps Pairs.empty rs
       rest SortedPairs.empty = (Pairs.empty, Side.end)
-      rest (SortedPairs.pair {k = k} {t = t} a y x) = let (rs, s) = rest x in (Pairs.pair k t rs, Side.keep a Above.none s)
+      rest (SortedPairs.pair {k = k} {t = t} a y x) = let (rs, s) = rest x in (Pairs.pair k t rs, Side.keep a BeforeAll.none s)
   side-some (SortedPairs.pair b y z) x = among b (λ t s. merged-some y s) (λ ps s. side-some z s) x
 
 -- And a merge of sorted trees is the sorted tree of the merge.

@@ -4,7 +4,7 @@ use Rattle.meaning.proofs.Keeps.{Keeps, KeepsAll, KeepsPairs, Units16}
 use Rattle.meaning.proofs.Members.{Which, at-it, at-other, fresh-first, fresh-rest, some-none, un-some, which}
 use Rattle.meaning.proofs.Order.{Placed, before, before-else, before-is, before-not, before-trans, place}
 use Rattle.meaning.specs.Meaning.{Maybe, Meaning, Meanings, Pairs, Tree, Trees, at, mean, means}
-use Rattle.meaning.specs.Order.{Above, Before, Sorted, SortedAll, SortedPairs}
+use Rattle.meaning.specs.Order.{BeforeAll, Before, Sorted, SortedAll, SortedPairs}
 use Rattle.text.specs.Bytes.{Units}
 use Rattle.text.specs.Ceilings.{same}
 use Rattle.text.specs.Decimal.{Decimal}
@@ -119,27 +119,27 @@ mutual
   keeps-canonPairs (KeepsPairs.pair {k = j} u f o os) = keeps-insert u (at-canon os j ∙ f) (keeps-canon o) (keeps-canonPairs os)
 
 -- The sorted tree is sorted.
-pub above-trans : {j k : Units} {ps : Pairs} → Before j k → Above k ps → Above j ps
-above-trans p Above.none = Above.none
-above-trans p (Above.next q a) = Above.next (before-trans p q) (above-trans p a)
+pub above-trans : {j k : Units} {ps : Pairs} → Before j k → BeforeAll k ps → BeforeAll j ps
+above-trans p BeforeAll.none = BeforeAll.none
+above-trans p (BeforeAll.next q a) = BeforeAll.next (before-trans p q) (above-trans p a)
 
-pub above-insert : (t : Tree) {j k : Units} {ps : Pairs} → Before j k → Above j ps → Above j (insert k t ps)
+pub above-insert : (t : Tree) {j k : Units} {ps : Pairs} → Before j k → BeforeAll j ps → BeforeAll j (insert k t ps)
 unfolding insert
-above-insert t p Above.none = Above.next p Above.none
-above-insert t {j} {k} p (Above.next {j = i} {t = s} {ps = ps} q a) = by (before k i) (above-insert t p a)
+above-insert t p BeforeAll.none = BeforeAll.next p BeforeAll.none
+above-insert t {j} {k} p (BeforeAll.next {j = i} {t = s} {ps = ps} q a) = by (before k i) (above-insert t p a)
   where
-    by : (b : Bool) → Above j (insert k t ps) → Above j (elim b as (λ _. Pairs) [ true ↦ Pairs.pair k t (Pairs.pair i s ps) | false ↦ Pairs.pair i s (insert k t ps) ])
-    by true r = Above.next p (Above.next q a)
-    by false r = Above.next q r
+    by : (b : Bool) → BeforeAll j (insert k t ps) → BeforeAll j (elim b as (λ _. Pairs) [ true ↦ Pairs.pair k t (Pairs.pair i s ps) | false ↦ Pairs.pair i s (insert k t ps) ])
+    by true r = BeforeAll.next p (BeforeAll.next q a)
+    by false r = BeforeAll.next q r
 
 sorted-insert : (k : Units) {t : Tree} {ps : Pairs} → at ps k ≡ Maybe.none → Sorted t → SortedPairs ps → SortedPairs (insert k t ps)
 unfolding insert
-sorted-insert k f s SortedPairs.empty = SortedPairs.pair Above.none s SortedPairs.empty
+sorted-insert k f s SortedPairs.empty = SortedPairs.pair BeforeAll.none s SortedPairs.empty
 sorted-insert k {t} f s (SortedPairs.pair {k = j} {t = r} {ps = ps} a s′ ss) = by (before k j) refl (sorted-insert k (fresh-rest j r ps k f) s ss)
   where
     by : (b : Bool) → before k j ≡ b → SortedPairs (insert k t ps)
         → SortedPairs (elim b as (λ _. Pairs) [ true ↦ Pairs.pair k t (Pairs.pair j r ps) | false ↦ Pairs.pair j r (insert k t ps) ])
-    by true p h = let q : Before k j = before-is k j p in SortedPairs.pair (Above.next q (above-trans q a)) s (SortedPairs.pair a s′ ss)
+    by true p h = let q : Before k j = before-is k j p in SortedPairs.pair (BeforeAll.next q (above-trans q a)) s (SortedPairs.pair a s′ ss)
     by false p h = SortedPairs.pair (above-insert t (before-else k j p (fresh-first j r ps k f)) a) s′ h
 
 mutual
@@ -161,10 +161,10 @@ mutual
   sorted-canonPairs (KeepsPairs.pair {k = j} u f o os) = sorted-insert j (at-canon os j ∙ f) (sorted-canon o) (sorted-canonPairs os)
 
 -- A name before all the names is none of them.
-pub above-none : {k : Units} {ps : Pairs} → Above k ps → at ps k ≡ Maybe.none
+pub above-none : {k : Units} {ps : Pairs} → BeforeAll k ps → at ps k ≡ Maybe.none
 unfolding at
-above-none Above.none = refl
-above-none {k} (Above.next {j = j} {t = t} {ps = ps} p a) = at-other j t ps k (before-not p) ∙ above-none a
+above-none BeforeAll.none = refl
+above-none {k} (BeforeAll.next {j = j} {t = t} {ps = ps} p a) = at-other j t ps k (before-not p) ∙ above-none a
 
 -- `Shape m t`: `t` is built as its meaning `m` is, and means `m`.
 data Shape : Meaning → Tree → Type 0 where
@@ -187,7 +187,7 @@ shape-of t e = subst (λ m. Shape m t) e (shape t)
 
 -- Sorted members that mean the same are equal if their first values and the rest are: neither first name can stand
 -- before the other.
-module _ {j i : Units} {t s : Tree} {ps qs : Pairs} (a : Above j ps) (b : Above i qs)
+module _ {j i : Units} {t s : Tree} {ps qs : Pairs} (a : BeforeAll j ps) (b : BeforeAll i qs)
     (h : (k : Units) → at (Pairs.pair i s qs) k ≡ at (Pairs.pair j t ps) k) (f : Shape (mean t) s → t ≡ s) (g : ((k : Units) → at qs k ≡ at ps k) → ps ≡ qs) where
   first-members : Pairs.pair j t ps ≡ Pairs.pair i s qs
   first-members = by (place j i)
@@ -197,12 +197,12 @@ module _ {j i : Units} {t s : Tree} {ps qs : Pairs} (a : Above j ps) (b : Above 
       rest e k (Which.other p) = sym (at-other i s qs k (λ q. p (q ∙ sym e))) ∙ h k ∙ at-other j t ps k p
 
       by : Placed j i → Pairs.pair j t ps ≡ Pairs.pair i s qs
-      by (Placed.ahead p) = absurd (some-none (sym (at-it j t ps j refl) ∙ sym (h j) ∙ above-none (Above.next p (above-trans p b))))
+      by (Placed.ahead p) = absurd (some-none (sym (at-it j t ps j refl) ∙ sym (h j) ∙ above-none (BeforeAll.next p (above-trans p b))))
       by (Placed.equal e) =
           let x : t ≡ s = f (shape-of s (un-some (sym (at-it i s qs j e) ∙ h j ∙ at-it j t ps j refl))) in
           let y : ps ≡ qs = g (λ k. rest e k (which k j)) in
           cc
-      by (Placed.behind p) = absurd (some-none (sym (at-it i s qs i refl) ∙ h i ∙ above-none (Above.next p (above-trans p a))))
+      by (Placed.behind p) = absurd (some-none (sym (at-it i s qs i refl) ∙ h i ∙ above-none (BeforeAll.next p (above-trans p a))))
 
 mutual
   unfolding mean

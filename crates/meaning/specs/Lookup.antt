@@ -24,7 +24,8 @@ isIndex [] = false
 isIndex (b ∷ []) = isDigit b
 isIndex (b ∷ c ∷ bs) = isNonzero b && allDigits (c ∷ bs)
 
--- The member of a name, and the element of an index, where the first has record `n`; what there isn't is lost at `p`.
+-- Among members, or elements, of which the first has record `n`: the one of a name, and the one of an index; where there
+-- is none it is lost at `p`.
 unfoldable pub byName : ℕ → Units → ℕ → Members → Seen
 unfolding size
 byName p us n Members.empty = Seen.lost p

@@ -14,9 +14,9 @@ pub data Before : Units → Units → Type 0 where
   later : {x y : ℕ} {xs ys : Units} → x ≡ y → Before xs ys → Before (x ∷ xs) (y ∷ ys)
 
 -- `k` stands before each of the names.
-pub data Above (k : Units) : Pairs → Type 0 where
-  none : Above k Pairs.empty
-  next : {j : Units} {t : Tree} {ps : Pairs} → Before k j → Above k ps → Above k (Pairs.pair j t ps)
+pub data BeforeAll (k : Units) : Pairs → Type 0 where
+  none : BeforeAll k Pairs.empty
+  next : {j : Units} {t : Tree} {ps : Pairs} → Before k j → BeforeAll k ps → BeforeAll k (Pairs.pair j t ps)
 
 -- The members of each object in it stand in that order.
 mutual
@@ -33,4 +33,4 @@ mutual
 
   pub data SortedPairs : Pairs → Type 0 where
     empty : SortedPairs Pairs.empty
-    pair : {k : Units} {t : Tree} {ps : Pairs} → Above k ps → Sorted t → SortedPairs ps → SortedPairs (Pairs.pair k t ps)
+    pair : {k : Units} {t : Tree} {ps : Pairs} → BeforeAll k ps → Sorted t → SortedPairs ps → SortedPairs (Pairs.pair k t ps)

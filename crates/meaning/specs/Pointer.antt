@@ -19,7 +19,7 @@ pub data Token : Type 0 where
 abbrev pub isPlainToken : ℕ → Bool
 isPlainToken b = leb b 0x7f && not (eqb b (code "/")) && not (eqb b (code "~"))
 
--- `TokenRest i us ts`: behind a `/` the bytes `i` are the token `us`, and then the tokens `ts`.
+-- `TokenRest i us ts`: behind a `/`, or inside a token, the bytes `i` are the rest `us` of the token, then the tokens `ts`.
 pub data TokenRest : Source → Units → List Token → Type 0 where
   end : {n : ℕ} → TokenRest (from n []) [] []
   next : {n : ℕ} {i : Bytes} {us : Units} {ts : List Token} → TokenRest (from (suc n) i) us ts → TokenRest (from n (code "/" ∷ i)) [] (Token.token n us ∷ ts)
@@ -40,7 +40,8 @@ pub data Pointer (p : Bytes) (ts : List Token) : Type 0 where
 abbrev pub Begins : Bytes → Type 0
 Begins p = (w : Bytes) × (ts : List Token) × Tokens (p ++ w) ts
 
--- Refusal 10 and its place: the longest beginning, of at most 65,536 bytes, that could still become a pointer. So
--- it is the first byte that can't stand, the pointer's length if it ends in a bare `~`, and 65,536 if it is longer.
+-- Refusal 10 and its place: the longest beginning, of at most 65,536 bytes, that could still become tokens, however
+-- many. So it is the first byte that can't stand, the pointer's length if it ends in a bare `~`, and 65,536 if it is
+-- longer, whichever is least.
 pub data Malformed (p : Bytes) (n : ℕ) : Type 0 where
   malformed : ((ts : List Token) → ¬ (Pointer p ts)) → Longest Begins (take maxPointer p) n → Malformed p n

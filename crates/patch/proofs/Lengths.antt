@@ -9,7 +9,7 @@ use Rattle.text.specs.Bytes.{Bytes}
 use Rattle.text.specs.Table.{Words}
 use Rattle.writer.proofs.Lengths.{too-long, too-narrow, well-written}
 use lib.ListN.{length}
-use mathlib.Core.Bool.{false, true}
+use mathlib.Core.Bool.{Bool, false, true}
 use mathlib.Core.Path.{_∙_, _≡_, ap, subst⁻¹}
 use native.Mathlib.Omega.{arith}
 
@@ -33,7 +33,7 @@ module _ {t p : Bytes} {w x : Words} {o o₁ : Bytes} {n : ℕ} (f : (c : Bytes)
     again : (c : Bytes) → Merges t p w x 0 0 0 c → Merges t p w₁ x₁ 0 0 0 c
     again c m = let (g, h) = s in subst⁻¹ (λ w. Merges t p w x₁ 0 0 0 c) g (subst⁻¹ (λ x. Merges t p w x 0 0 0 c) h m)
 
-    pub write-asks : (c : Bytes) × Merges t p w x 0 0 0 c × Fits false c o → (c : Bytes) × Merges t p w₁ x₁ 0 0 0 c × Fits true c o₁
+    pub write-asks : {on : Bool} → (c : Bytes) × Merges t p w x 0 0 0 c × Fits false c o → (c : Bytes) × Merges t p w₁ x₁ 0 0 0 c × Fits on c o₁
     write-asks (c, m, k) = (c, again c m, record { few = k .few; room = λ _. omega (arith, f c m .count) })
 
     pub written : {r : Answer} {i : ℕ} {o₂ : Bytes} → ((c : Bytes) → Merges t p w₁ x₁ 0 0 0 c → Emits true c o₁ i o₂) → n ≤ maxText → r ≡ answered 0 0 0 n

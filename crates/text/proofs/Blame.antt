@@ -1,5 +1,5 @@
 -- 01's consequences of the verdict: which byte stands at the place of a refusal. A depth is refused at the bracket, a
--- digit ceiling at a digit or the point, an exponent at a digit, a repeated name at its closing quote.
+-- digit ceiling at a digit or the point, an exponent at a digit, a repeated name at a quote.
 use Prim.Native.Char.{code}
 use Prim.Native.Nat.{_+_, _<_, suc, zero, ℕ}
 use Rattle.text.proofs.Demand3.{verdict-run}

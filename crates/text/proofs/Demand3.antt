@@ -1,5 +1,6 @@
 -- Demand 3: the machine's outcome is the verdict of the rules, no second one fits, and a text has one meaning only. It
--- is proved of all ceilings `B` with the house's limits, so of the house's and of those without the names' ceiling.
+-- is proved of all ceilings `B` that leave room for short numbers and fresh names and let at most 18 digits pass
+-- (`Limits`), so of the house's and of those without any one but that of digits.
 use Prim.Native.Nat.{_+_, _<_, _≤_, suc, ℕ}
 use Rattle.text.proofs.Limits.{Limits, house-limits, roomy-without, wider}
 use Rattle.text.proofs.Longest.{cut-at, longest-at, longest-whole, take-next}

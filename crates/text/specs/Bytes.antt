@@ -7,7 +7,8 @@ use lib.Dec.{eqb, leb}
 use mathlib.Core.Bool.{Bool, not, _&&_, _||_, cond}
 use mathlib.Core.List.{List, [], _∷_}
 
--- A text is a list of bytes, and a string means a list of 16-bit code units.
+-- A text is a list of bytes, and a string means a list of 16-bit code units. Both are lists of numbers here; no rule of
+-- the grammar takes a byte above FF, so no text and no continuation that makes one has any.
 abbrev pub Bytes : Type 0
 Bytes = List ℕ
 

@@ -3,7 +3,7 @@
 use Prim.Native.Nat.{_<_, _≤_, ℕ}
 use Rattle.meaning.proofs.Members.{Which, at-it, at-other, which}
 use Rattle.meaning.specs.Meaning.{Maybe, Pairs, Tree, Trees, at, mean}
-use Rattle.meaning.specs.Order.{Above, Before, SortedPairs}
+use Rattle.meaning.specs.Order.{BeforeAll, Before, SortedPairs}
 use Rattle.meaning.specs.Order as meaning
 use Rattle.members.proofs.Membership.{in-none}
 use Rattle.members.proofs.Ordering.{before-less, before-other}
@@ -86,10 +86,10 @@ module _ (name : ℕ → Units) (value : ℕ → Tree) where
       by (inr n) = at-lost a k (λ x i. n x (s .to x i)) ∙ sym (at-lost b k n)
 
   -- Records in order give members in order.
-  above : (x : ℕ) (l : List ℕ) → ((v : ℕ) → In v l → Before (name x) (name v)) → Above (name x) (pairsOf name value l)
+  above : (x : ℕ) (l : List ℕ) → ((v : ℕ) → In v l → Before (name x) (name v)) → BeforeAll (name x) (pairsOf name value l)
   unfolding pairsOf
-  above x [] f = Above.none
-  above x (y ∷ l) f = Above.next (f y In.here) (above x l (λ v i. f v (In.there i)))
+  above x [] f = BeforeAll.none
+  above x (y ∷ l) f = BeforeAll.next (f y In.here) (above x l (λ v i. f v (In.there i)))
 
   ahead-of : (x v : ℕ) → before name x v ≡ true → (name x ≡ name v → x ≡ v) → Before (name x) (name v)
   ahead-of x v e d =

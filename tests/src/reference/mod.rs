@@ -1,4 +1,5 @@
-//! What 01 (docs/01-scope.md) asks of each entry, written from its words alone and meant to be believed by reading.
+//! What 01 (docs/01-scope.md) asks of each entry, written from its words and the readings in docs/DECISIONS.md, without a
+//! look at the code, and meant to be believed by reading.
 //! The reader goes byte by byte, judges numbers and characters by their whole spelling so far, keeps names as sets of
 //! units, and makes the records from the finished tree. The writer goes down the grammar to what the text means, where
 //! no spelling and no order is left, and up again. The look-up goes down the grammar too, and then from the root by
