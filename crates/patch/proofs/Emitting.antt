@@ -1,7 +1,7 @@
 -- Steps that write to the front of a lent output, or only count, one behind another.
 use Prim.Native.Nat.{ℕ, _+_, _-_, _≤_}
 use Rattle.patch.specs.Emits.{Emits, Fits, restAt}
-use Rattle.spell.proofs.Putting.{lend, lend-fits, lend-start, over-length, put-none, rest}
+use Rattle.spell.proofs.Putting.{lend, lend-fits, lend-start, put-length, put-none, rest}
 use Rattle.spell.specs.Puts.{Puts}
 use Rattle.text.specs.Bytes.{Bytes}
 use lib.ListN.{drop, length, length-append, take}
@@ -45,7 +45,7 @@ rest-all {k} o e =
 
 -- The laws, with the two cases apart.
 length-by : (on : Bool) {c o o₁ : Bytes} {n : ℕ} → Emits on c o n o₁ → (on ≡ true → length c ≤ length o) → length o₁ ≡ length o
-length-by true {c = c} {o = o} p h = ap length (p .now) ∙ over-length c o (h refl)
+length-by true p h = put-length (emit-puts p) (h refl)
 length-by false p h = ap length (p .now)
 
 start-by : (on : Bool) {c o o₁ : Bytes} {n k : ℕ} → Emits on c o n o₁ → (on ≡ true → length c ≤ length o) → k ≡ restAt on n → k ≤ length o₁

@@ -1,5 +1,6 @@
 -- Steps that write to the front of a lent output, one behind another.
 use Prim.Native.Nat.{ℕ, suc, _+_, _-_, _<_, _≤_}
+use Rattle.entries.proofs.Slices.{over-length}
 use Rattle.entries.specs.Answer.{over}
 use Rattle.spell.specs.Puts.{Puts}
 use Rattle.text.specs.Bytes.{Bytes}
@@ -8,10 +9,6 @@ use lib.Seq.{drop-at, drop-cons, drop-drop, drop-length, set-at, take-at, take-l
 use mathlib.Core.List.{[], _++_, _∷_, append-assoc, append-nil}
 use mathlib.Core.Path.{_∙_, _≡_, ap, ap₂, refl, sym}
 use native.Mathlib.Omega.{arith}
-
--- The length of an output stays.
-pub over-length : (c o : Bytes) → length c ≤ length o → length (over c o) ≡ length o
-over-length c o h = length-append c (drop (length c) o) ∙ omega (arith, length-drop (length c) o)
 
 -- What a first step left of an output, as it is lent to the next.
 abbrev pub rest : ℕ → Bytes → Bytes
@@ -26,6 +23,7 @@ put-one b [] h = absurd (omega arith)
 put-one b (x ∷ o) h = record { count = refl; now = refl }
 
 module _ {c o o₁ : Bytes} {n : ℕ} (p : Puts c o n o₁) (h : length c ≤ length o) where
+  -- The length of an output stays.
   pub put-length : length o₁ ≡ length o
   put-length = ap length (p .now) ∙ over-length c o h
 

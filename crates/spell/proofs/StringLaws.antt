@@ -7,7 +7,8 @@ use Rattle.names.proofs.Reading.{units-end, units-plain, units-quote}
 use Rattle.names.proofs.Runs.{eight-tests}
 use Rattle.names.specs.Steps.{StepAt, all, endCode}
 use Rattle.names.specs.Units.{units}
-use Rattle.spell.proofs.Putting.{lend, lend-fits, lend-start, over-length, put-byte, put-length, put-none, rest}
+use Rattle.spell.proofs.Joining.{put-as}
+use Rattle.spell.proofs.Putting.{lend, lend-fits, lend-start, put-byte, put-length, put-none, rest}
 use Rattle.spell.proofs.Stores.{stored}
 use Rattle.spell.proofs.UnitLaws.{bare-text}
 use Rattle.spell.specs.Puts.{Puts}
@@ -18,7 +19,7 @@ use Rattle.text.specs.Bytes.{Bytes}
 use borrow.Author.Tests.{ltb-false, ltb-true}
 use lib.Dec.{T, ltb}
 use lib.ListN.{drop, getD, length, length-append, length-drop, set, take}
-use lib.Seq.{drop-cons, drop-drop, length-take-le, set-at, take-add}
+use lib.Seq.{drop-cons, drop-drop, length-take-le, take-add}
 use mathlib.Core.Bool.{Bool, _&&_, false, false≢true, true}
 use mathlib.Core.List.{[], _++_, _∷_, append-assoc}
 use mathlib.Core.Path.{_∙_, _≡_, ap, ap₂, refl, subst, subst⁻¹, sym}
@@ -146,7 +147,7 @@ pub record Upto (w t : Bytes) (i : ℕ) (o : Bytes) (p : ℕ) (o′ : Bytes) : T
   pub puts : Puts front o p o′
 
 pub upto-none : (t : Bytes) (i : ℕ) (o : Bytes) → length (ending t i) ≤ length o → Upto (ending t i) t i o 0 o
-upto-none t i o h = record { front = []; whole = refl; room = h; puts = record { count = refl; now = refl } }
+upto-none t i o h = record { front = []; whole = refl; room = h; puts = put-none o }
 
 module _ {w t o o₁ : Bytes} {i p : ℕ} (x : Upto w t i o p o₁) where
   lengths : length w ≡ p + length (ending t i)
@@ -159,7 +160,7 @@ module _ {w t o o₁ : Bytes} {i p : ℕ} (x : Upto w t i o p o₁) where
   upto-start = lend-start (x .puts) front-fits
 
   pub upto-length : length o₁ ≡ length o
-  upto-length = ap length (x .puts .now) ∙ over-length (x .front) o front-fits
+  upto-length = put-length (x .puts) front-fits
 
   -- What is written next fits.
   module _ {j : ℕ} {c : Bytes} (y : Part t i j c) where
@@ -200,18 +201,7 @@ module _ {w t o o₁ : Bytes} {i p : ℕ} (x : Upto w t i o p o₁) where
     upto-last = let h : p < length o = omega (arith, x .room, lengths, ap length e) in (h, omega (arith, upto-length))
 
     pub upto-close : Puts w o (p + 1) (set o₁ p (code "\""))
-    upto-close =
-        let f = x .front in
-        let g = x .puts in
-        let v : w ≡ f ++ (code "\"" ∷ []) = x .whole ∙ ap (λ s. f ++ s) e in
-        let l : length w ≡ length f + 1 = ap length v ∙ length-append f (code "\"" ∷ []) in
-        let d = drop-cons o (length f) 0 (omega (arith, x .room)) in
-        let n : suc (length f) ≡ length w = omega arith in
-        record {
-          count = omega (arith, g .count);
-          now = ap (λ s. set s p (code "\"")) (g .now ∙ ap (λ s. f ++ s) d) ∙ set-at f (getD o (length f) 0) (drop (suc (length f)) o) (code "\"") p (sym (g .count))
-              ∙ sym (append-assoc f (code "\"" ∷ []) (drop (suc (length f)) o)) ∙ ap₂ (λ a k. a ++ drop k o) (sym v) n;
-        }
+    upto-close = put-as (sym (x .whole ∙ ap (λ s. x .front ++ s) e)) (put-byte (x .puts) front-fits (code "\"") (omega (arith, upto-last .0, x .puts .count)))
 
     pub upto-close-length : length (set o₁ p (code "\"")) ≡ length o
     upto-close-length = put-length upto-close (x .room)

@@ -3,7 +3,7 @@ use Prim.Native.Char.{code}
 use Prim.Native.Nat.{_+_, _<_, _≤_, ℕ}
 use Rattle.members.specs.Names.{nameAt}
 use Rattle.spell.proofs.Joining.{put-as}
-use Rattle.spell.proofs.Putting.{over-length, put-byte, put-none}
+use Rattle.spell.proofs.Putting.{put-byte, put-length, put-none}
 use Rattle.spell.specs.Puts.{Puts}
 use Rattle.spell.specs.Scalars.{quoted}
 use Rattle.text.specs.Bytes.{Bytes}
@@ -46,7 +46,7 @@ module _ (t : Bytes) {q z : ℕ} (e : z ≡ q) where
     -- The colon behind a name.
     module _ {o o₁ : Bytes} {m : ℕ} (h : length (named t q) ≤ length o) (p : Puts (quoted (nameAt t z)) o m o₁) where
       pub colon-fits : m < length o₁
-      colon-fits = omega (arith, some-length, p .count, ap length (p .now), over-length (quoted (nameAt t z)) o (omega (arith, some-length)))
+      colon-fits = omega (arith, some-length, p .count, put-length p (omega (arith, some-length)))
 
       pub put-colon : Puts (named t q) o (m + 1) (set o₁ m (code ":"))
       put-colon = put-as (sym named-some) (put-byte p (omega (arith, some-length)) (code ":") (omega (arith, some-length)))
