@@ -1,5 +1,5 @@
 -- A program's table and output are long enough: of the numbers 2, 12 and 13 it gives none.
-use Prim.Native.Nat.{_*_, _+_, _≤_, ℕ}
+use Prim.Native.Nat.{_*_, _≤_, ℕ}
 use Rattle.console.specs.Programs.{Apply, Canon, Given, Wide, longest}
 use Rattle.entries.proofs.Readings.{ready-text}
 use Rattle.entries.specs.Answer.{Answer, Read, Reading, Writing}

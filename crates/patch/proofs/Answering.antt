@@ -1,7 +1,7 @@
 -- What the merge patch answers, in the terms of the entries.
 use Prim.Native.Nat.{_≤_, ℕ}
 use Rattle.entries.proofs.Readings.{ready-text}
-use Rattle.entries.specs.Answer.{Read, Reading, Writing, maxText}
+use Rattle.entries.specs.Answer.{Read, Reading, Writing}
 use Rattle.entries.specs.Entries.{Merger}
 use Rattle.meaning.proofs.Demand2.{canonical-of, merge-keeps, merge-six-times}
 use Rattle.meaning.proofs.Reading.{text-keeps}
@@ -20,17 +20,14 @@ use Rattle.text.specs.Bytes.{Bytes}
 use Rattle.text.specs.Node.{Node}
 use Rattle.text.specs.Table.{Words}
 use Rattle.values.proofs.Holding.{reading-held}
+use Rattle.writer.proofs.Answering.{read-short}
 use lib.ListN.{length}
 use mathlib.Core.Bool.{false, true≢false}
 use mathlib.Core.List.{[]}
 use mathlib.Core.Path.{_≡_, refl, subst⁻¹, sym}
 use native.Mathlib.Omega.{arith}
 
--- What was read is no longer than the ceiling.
-read-short : {k : ℕ} {t : Bytes} {w w′ : Words} {v : Node} → Reading k t w (Read.ready v w′) → length t ≤ maxText
-read-short (Reading.accepted l m x) = l
-
--- Its value stands at the first record.
+-- The value of a text that was read stands at the first record.
 module _ {k : ℕ} {t : Bytes} {w w′ : Words} {v : Node} (r : Reading k t w (Read.ready v w′)) where
   read-stands : Stands t w′ 0 0 (canon (tree v))
   read-stands = Stands.stands (read-short r) (reading-held r) (text-keeps (ready-text r)) refl

@@ -89,3 +89,19 @@ module _ {on : Bool} {c o o₁ : Bytes} {n : ℕ} (p : Emits on c o n o₁) (roo
     pub emit-both : {d : Bytes} {m : ℕ} {o₂ : Bytes} → Emits on d (rest k o₁) m o₂
         → Emits on (c ++ d) o (n + m) (take k o₁ ++ (o₂ ++ drop (length o₁ - k) (drop k o₁)))
     emit-both q = both-by on p room e q
+
+-- One text behind another.
+module _ (a b : Bytes) {on : Bool} {o : Bytes} (f : Fits on (a ++ b) o) where
+  pub first-fits : Fits on a o
+  first-fits = fits-first a b f
+
+  module _ {n k : ℕ} {o₁ : Bytes} (p : Emits on a o n o₁) (e : k ≡ restAt on n) where
+    pub second-start : k ≤ length o₁
+    second-start = rest-start p (first-fits .room) e
+
+    pub second-fits : Fits on b (rest k o₁)
+    second-fits = rest-fits p (first-fits .room) e b f
+
+    pub both-emit : {c : Bytes} {m : ℕ} {o₂ : Bytes} → Emits on c (rest k o₁) m o₂
+        → Emits on (a ++ c) o (n + m) (take k o₁ ++ (o₂ ++ drop (length o₁ - k) (drop k o₁)))
+    both-emit = emit-both p (first-fits .room) e

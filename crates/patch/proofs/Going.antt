@@ -8,7 +8,7 @@ use Rattle.members.specs.Links.{linkOf}
 use Rattle.members.specs.Names.{Named, nameOf}
 use Rattle.names.proofs.Order.{behind-before, order-equal, order-most}
 use Rattle.names.specs.Order.{order}
-use Rattle.patch.proofs.Emitting.{emit-as, emit-both, emit-length, emit-none, fits-first, rest-fits, rest-start}
+use Rattle.patch.proofs.Emitting.{emit-as, emit-both, emit-none, fits-first, rest-fits, rest-start}
 use Rattle.patch.proofs.Sides.{Ahead, Turned, turn-both, turn-new, turn-old}
 use Rattle.patch.specs.Emits.{Emits, Fits, endAt, markAt, mostBytes, restAt}
 use Rattle.patch.specs.Stands.{Chained, Old, Stands, noRecord}
@@ -69,14 +69,8 @@ module _ {t : Bytes} {w : Words} {d : ℕ} where
   stayed {i} {x} {ps} e c = subst⁻¹ (λ b. Chained t w d (fewerIf b i) (onwardIf b w x) ps) e c
 
 -- A turn by its number.
-old-turn : {z : ℕ} → z ≡ 0 → (ltb z 2 ≡ true) × (ltb 0 z ≡ false)
-old-turn e = (ap (λ z. ltb z 2) e, ap (λ z. ltb 0 z) e)
-
-both-turn : {z : ℕ} → z ≡ 1 → (ltb z 2 ≡ true) × (ltb 0 z ≡ true)
-both-turn e = (ap (λ z. ltb z 2) e, ap (λ z. ltb 0 z) e)
-
-new-turn : {z : ℕ} → z ≡ 2 → (ltb z 2 ≡ false) × (ltb 0 z ≡ true)
-new-turn e = (ap (λ z. ltb z 2) e, ap (λ z. ltb 0 z) e)
+turn-by : {z n : ℕ} → z ≡ n → (ltb z 2 ≡ ltb n 2) × (ltb 0 z ≡ ltb 0 n)
+turn-by e = (ap (λ z. ltb z 2) e, ap (λ z. ltb 0 z) e)
 
 -- A turn that takes a member of the patch adds this behind `done`.
 record Adds (t p : Bytes) (w u : Words) (d x y z m : ℕ) (done : Bytes) (rs rs′ : Pairs) : Type 0 where
@@ -90,7 +84,7 @@ module _ {t p : Bytes} {w u : Words} {d z m : ℕ} {done : Bytes} (mark : m ≡ 
       → Ahead (nameOf t w x) qs → Side (Pairs.pair (nameOf t w x) v ps) qs rs → Next t p w u d (suc i) x j y z m done rs
   next-old {i} {x} {j} {y} {v} {ps} {qs} e n s c k a h =
       let (rs, f, g) = turn-old a h in
-      let (b, o) = old-turn e in
+      let (b, o) = turn-by e in
       record {
         olds = ps;
         news = qs;
@@ -120,7 +114,7 @@ module _ {t p : Bytes} {w u : Words} {d z m : ℕ} {done : Bytes} (mark : m ≡ 
       → Ahead (nameOf p u y) ps → Side ps (Pairs.pair (nameOf p u y) q qs) rs → Next t p w u d i x (suc j) y z m done rs
   next-new {i} {x} {j} {y} {q} {ps} {qs} e c n s k a h =
       let (rs, f, g) = turn-new a h in
-      let (b, o) = new-turn e in
+      let (b, o) = turn-by e in
       let l : oldOf z x ≡ noRecord = ap (λ z. oldOf z x) e in
       let r = adds {x = x} (λ f. omega (arith, e, f)) n (subst⁻¹ (λ r. Old t w d r nothing) l Old.none) s f in
       record {
@@ -142,7 +136,7 @@ module _ {t p : Bytes} {w u : Words} {d z m : ℕ} {done : Bytes} (mark : m ≡ 
       → nameOf t w x ≡ nameOf p u y → Side (Pairs.pair (nameOf t w x) v ps) (Pairs.pair (nameOf p u y) q qs) rs → Next t p w u d (suc i) x (suc j) y z m done rs
   next-both {i} {x} {j} {y} {v} {q} {ps} {qs} e a c n s k i′ h =
       let (rs, f, g) = turn-both i′ h in
-      let (b, o) = both-turn e in
+      let (b, o) = turn-by e in
       let l : oldOf z x ≡ x = ap (λ z. oldOf z x) e in
       let r = adds {x = x} (λ f. omega (arith, e, f)) n (subst⁻¹ (λ r. Old t w d r v) l (Old.some a)) s f in
       record {
@@ -233,9 +227,6 @@ module _ {t p : Bytes} {w u : Words} {d i x j y at : ℕ} {on : Bool} {o o′ c 
   module _ (room : on ≡ true → at ≤ length o) where
     done-room : on ≡ true → length (g .done) ≤ length o
     done-room e = omega (arith, room e, g .emitted .count)
-
-    pub going-length : length o′ ≡ length o
-    going-length = emit-length (g .emitted) done-room
 
     module _ {k : ℕ} (r : k ≡ restAt on at) where
       pub going-rest : k ≤ length o′

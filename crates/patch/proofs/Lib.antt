@@ -9,6 +9,5 @@ pub mod Taking
 pub mod Opening
 pub mod Going
 pub mod Turning
-pub mod Keeping
 pub mod Lengths
 pub mod Answering

@@ -1,5 +1,6 @@
 -- What the writer answers, in the terms of the entries.
-use Prim.Native.Nat.{_*_, _≤_}
+use Prim.Native.Nat.{_*_, _≤_, ℕ}
+use Rattle.entries.proofs.Readings.{ready-text}
 use Rattle.entries.specs.Answer.{Read, Reading, Writing, maxText}
 use Rattle.entries.specs.Entries.{Writer}
 use Rattle.meaning.proofs.Demand2.{canonical-of, six-times}
@@ -26,14 +27,16 @@ pub record Accepted (t : Bytes) (w w′ : Words) : Type 0 where
   pub short : length t ≤ maxText
   pub small : length (textOf value) ≤ 6 * length t
 
+-- What was read is no longer than the ceiling.
+pub read-short : {k : ℕ} {t : Bytes} {w w′ : Words} {v : Node} → Reading k t w (Read.ready v w′) → length t ≤ maxText
+read-short (Reading.accepted l m x) = l
+
 taken : {t : Bytes} {w w′ : Words} (v : Node) → Reading 1 t w (Read.ready v w′) → Accepted t w w′
-taken v r = by r r
-  where
-    by : {t : Bytes} {w w′ : Words} {v : Node} → Reading 1 t w (Read.ready v w′) → Reading 1 t w (Read.ready v w′) → Accepted t w w′
-    by {v = v} r (Reading.accepted l m x) =
-        let k = text-keeps x in
-        let c = canonical-of k in
-        record { value = v; reading = r; canonical = c; writes = Writes.writes (reading-held r) k refl; short = l; small = six-times x c }
+taken v r =
+    let x = ready-text r in
+    let k = text-keeps x in
+    let c = canonical-of k in
+    record { value = v; reading = r; canonical = c; writes = Writes.writes (reading-held r) k refl; short = read-short r; small = six-times x c }
 
 module _ {t : Bytes} {w w′ : Words} {a : Answer} where
   pub accepted : ReadAs 1 t w w′ a → a .number ≡ 0 → Accepted t w w′

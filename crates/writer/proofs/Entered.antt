@@ -63,7 +63,7 @@ module _ (t : Bytes) (w u : Words) (d r : ℕ) (cs : List Child) (h : HeldAll t 
   abbrev entryText : ℕ → Bytes
   entryText x = named t (word u x 2) ++ put (treeAt cs (suc r) x) []
 
-  pub entry-of : (x : ℕ) → In x (places (suc r) cs) → Nameable t (word w x 2) → Entry t u x (d + 1) (entryText x)
+  entry-of : (x : ℕ) → In x (places (suc r) cs) → Nameable t (word w x 2) → Entry t u x (d + 1) (entryText x)
   entry-of x i n =
       let p = inner h k i in
       let y : Held t u x (p .value) = held-stays f (p .held) (λ z a b. inside-none h i (omega arith) (omega (arith, held-record (p .held)))) in
@@ -71,12 +71,16 @@ module _ (t : Bytes) (w u : Words) (d r : ℕ) (cs : List Child) (h : HeldAll t 
       (Writes.writes y (subst⁻¹ (λ d. Keeps d (tree (p .value))) (add-one d) (p .keeps)) refl)
       (ap (λ z. named t (word u x 2) ++ put z []) (sym (p .sorted)))
 
--- The siblings that are counted are those entries.
+-- They are siblings, and the siblings that are counted are they.
+siblings-of : {t : Bytes} {w : Words} {r e : ℕ} {cs : List Child} → HeldAll t w (suc r) cs → e ≡ suc r + sizes cs → Siblings w e (r + 1) (places (suc r) cs)
+siblings-of {w = w} {r} {e} {cs} h f =
+    subst⁻¹ (λ e. Siblings w e (r + 1) (places (suc r) cs)) f (subst⁻¹ (λ k. Siblings w (suc r + sizes cs) k (places (suc r) cs)) (add-one r) (held-siblings h))
+
 pub same-siblings : {t : Bytes} {w : Words} {r e : ℕ} {cs : List Child} (n : ℕ) → HeldAll t w (suc r) cs → e ≡ suc r + sizes cs → Siblings w e (r + 1) (siblingsOf w n (r + 1)) → siblingsOf w n (r + 1) ≡ places (suc r) cs
-same-siblings {w = w} {r} {e} {cs} n h f s =
-    let a : Siblings w e (r + 1) (places (suc r) cs) =
-    subst⁻¹ (λ e. Siblings w e (r + 1) (places (suc r) cs)) f (subst⁻¹ (λ k. Siblings w (suc r + sizes cs) k (places (suc r) cs)) (add-one r) (held-siblings h)) in
-    siblings-unique s a
+same-siblings n h f s = siblings-unique s (siblings-of h f)
+
+inner-pairs : {d : ℕ} {ps : Pairs} → Keeps d (Tree.object ps) → KeepsPairs (suc d) ps
+inner-pairs (Keeps.object l z) = z
 
 -- An object whose members are linked in order.
 module _ (t : Bytes) (w u : Words) (d r n x : ℕ) (ms : Members) (s : Spelt t 0 ms) (h : HeldAll t w (suc r) (members ms)) (k : Keeps d (Tree.object (pairs ms)))
@@ -89,9 +93,6 @@ module _ (t : Bytes) (w u : Words) (d r n x : ℕ) (ms : Members) (s : Spelt t 0
 
   abbrev own : List ℕ
   own = places (suc r) (members ms)
-
-  pub inner-pairs : {d : ℕ} {ps : Pairs} → Keeps d (Tree.object ps) → KeepsPairs (suc d) ps
-  inner-pairs (Keeps.object l z) = z
 
   distinct : (a b : ℕ) → In a own → In b own → name a ≡ name b → a ≡ b
   distinct = names-distinct t w s h (inner-pairs k)
@@ -135,11 +136,11 @@ unfolding elements places
 elements-unnamed (Nodes.cons v vs) (HeldAll.more h u e y) In.here = e
 elements-unnamed (Nodes.cons v vs) (HeldAll.more h u e y) (In.there i) = elements-unnamed vs y i
 
+inner-trees : {d : ℕ} {ts : Trees} → Keeps d (Tree.array ts) → KeepsAll (suc d) ts
+inner-trees (Keeps.array l z) = z
+
 module _ (t : Bytes) (w : Words) (d r n : ℕ) (vs : Nodes) (h : HeldAll t w (suc r) (elements vs)) (k : Keeps d (Tree.array (trees vs)))
     (p : siblingsOf w n (r + 1) ≡ places (suc r) (elements vs)) where
-  inner-trees : {d : ℕ} {ts : Trees} → Keeps d (Tree.array ts) → KeepsAll (suc d) ts
-  inner-trees (Keeps.array l z) = z
-
   abbrev elementText : ℕ → Bytes
   elementText = entryText t w w d r (elements vs) h (keeps-elements vs (inner-trees k)) (frame-refl (places (suc r) (elements vs)) w)
 
@@ -179,8 +180,7 @@ module _ {t : Bytes} {w : Words} {r d b : ℕ} {c : Bytes} (x : Writes t w r d c
   entering = by (opened x o)
     where
       siblings : (cs : List Child) → HeldAll t w (suc r) cs → word w r 3 ≡ suc r + sizes cs → (l : List ℕ) × Siblings w e (r + 1) l
-      siblings cs h f =
-          (places (suc r) cs, subst⁻¹ (λ e. Siblings w e (r + 1) (places (suc r) cs)) (z ∙ f) (subst⁻¹ (λ k. Siblings w (suc r + sizes cs) k (places (suc r) cs)) (add-one r) (held-siblings h)))
+      siblings cs h f = (places (suc r) cs, siblings-of h (z ∙ f))
 
       by : Inside t w r d b c → (4 * e ≤ length w) × ((l : List ℕ) × Siblings w e (r + 1) l)
       by (Inside.array vs _ h _ _ f l m) = (omega (arith, z, l), siblings (elements vs) h f)

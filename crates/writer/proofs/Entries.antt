@@ -89,9 +89,6 @@ module _ {t : Bytes} {w : Words} {d b i x at : ℕ} {o o′ c : Bytes} (g : Goin
       whole : c ≡ g .done
       whole = g .split ∙ ap (λ l. g .done ++ l) (none i e (g .texts .text)) ∙ append-nil (g .done)
 
-  pub going-length : at ≤ length o → length o′ ≡ length o
-  going-length l = put-length going-puts (omega (arith, g .count))
-
   module _ (l : 0 < i) where
     one-more : i ≡ suc (i - 1)
     one-more = omega arith

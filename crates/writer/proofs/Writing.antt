@@ -7,12 +7,12 @@ use Rattle.members.specs.Chains.{siblingsOf}
 use Rattle.members.specs.Links.{lowPart}
 use Rattle.members.specs.Lists.{In}
 use Rattle.members.specs.Records.{Room, word}
-use Rattle.reader.specs.Tokens.{brace, bracket, opensContainer}
+use Rattle.reader.specs.Tokens.{opensContainer}
+use Rattle.reader.proofs.Tokens.{opens-low}
 use Rattle.spell.proofs.Joining.{put-as}
 use Rattle.spell.proofs.Putting.{lend, lend-fits, rest}
 use Rattle.spell.specs.Puts.{Puts}
 use Rattle.spell.specs.Scalars.{Scalar}
-use Rattle.text.proofs.Tests.{byte-at, either, is-true}
 use Rattle.text.specs.Bytes.{Bytes}
 use Rattle.text.specs.Ceilings.{maxDepth}
 use Rattle.text.specs.Table.{Words}
@@ -20,7 +20,6 @@ use Rattle.writer.proofs.Opening.{Alone, Inside, alone, opened, writes-
 use Rattle.writer.specs.Entering.{Cleared, Kept, Opened, opensObject}
 use Rattle.writer.specs.Writes.{Entry, Nameable, Writes, named}
 use borrow.Author.Tests.{not-false, not-true}
-use lib.Dec.{eqb}
 use lib.ListN.{drop, getD, length, length-append, take}
 use mathlib.Core.Bool.{Bool, false, not, true}
 use mathlib.Core.List.{[], _++_}
@@ -64,12 +63,8 @@ module _ {t : Bytes} {w : Words} {r d : ℕ} {c : Bytes} (y : Writes t w r d c) 
 pub opened-at : {t : Bytes} {w : Words} {r p : ℕ} {z : Bool} → p ≡ word w r 0 % lowPart → not z ≡ false → z ≡ opensContainer (getD t p 0) → Opened t w r (getD t p 0)
 opened-at {t} {p = p} {z} a n e = record { byte = ap (λ p. getD t p 0) (sym a); kind = sym e ∙ not-false z n }
 
-open-small : (b : ℕ) → opensContainer b ≡ true → b + 2 < 256
-open-small b e =
-    either (eqb b bracket) (eqb b brace) (λ z. byte-at {b = b} bracket (λ b. b + 2 < 256) z (omega arith)) (λ z. byte-at {b = b} brace (λ b. b + 2 < 256) z (omega arith)) (is-true e)
-
 pub opened-small : {t : Bytes} {w : Words} {r b : ℕ} → Opened t w r b → b + 2 < 256
-opened-small {b = b} o = open-small b (o .kind)
+opened-small {b = b} o = omega (arith, opens-low b (o .kind))
 
 pub opened-depth : {t : Bytes} {w : Words} {r d b : ℕ} {c : Bytes} → Writes t w r d c → Opened t w r b → d < maxDepth
 opened-depth {t} {w} {r} {d} {b} {c} y o = by (opened y o)

@@ -1,5 +1,5 @@
 -- Apart from the length of its text the answer is the writer's, with a table that is long enough.
-use Prim.Native.Nat.{_*_, _<_, _≤_, ℕ}
+use Prim.Native.Nat.{_*_, _<_, _≤_}
 use Rattle.canon.proofs.canon.Statement.{statement}
 use Rattle.canon.proofs.canon.Tie as tie
 use Rattle.console.proofs.Given.{canon-given, wide}
