@@ -102,10 +102,18 @@ merge-member-same-length : (t : ℕ) → merge-member-lts.Need-same-length (merg
 merge-member-same-length t c = ap length (c .before .before .before .before .keep-member .ensures .1)
 
 merge-member-same-length-2 : (t : ℕ) → merge-member-lts.Need-same-length-2 (merge-member-claims t) (merge-member-at t) merge-member.Post
-merge-member-same-length-2 t c = let (d, (e, x, f)) = c .before .before .before .before .before .before .before .before .before .before .before .before .before .pre .1 in emit-length (keep-gives (c .before .before .before .before .before .before .before .if1 .taken) (c .before .before .before .before .keep-member .ensures .0) x) (f .room)
+merge-member-same-length-2 t c =
+    let at-keep-member = c .before .before .before .before in
+    let at-if1 = at-keep-member .before .before .before in
+    let start = at-if1 .before .before .before .before .before .before in
+    let (d, (e, x, f)) = start .pre .1 in
+    emit-length (keep-gives (at-if1 .if1 .taken) (at-keep-member .keep-member .ensures .0) x) (f .room)
 
 merge-member-returns : (t : ℕ) → merge-member-lts.Need-returns (merge-member-claims t) (merge-member-at t) merge-member.Post
-merge-member-returns t c = ((λ e x. keep-gives (c .before .before .before .before .before .before .before .if1 .taken) (c .before .before .before .before .keep-member .ensures .0) x), (c .before .before .before .before .keep-member .ensures .1, refl))
+merge-member-returns t c =
+    let at-keep-member = c .before .before .before .before in
+    let at-if1 = at-keep-member .before .before .before in
+    ((λ e x. keep-gives (at-if1 .if1 .taken) (at-keep-member .keep-member .ensures .0) x), (at-keep-member .keep-member .ensures .1, refl))
 
 merge-member-is-null-requires : (t : ℕ) → merge-member-lts.Need-is-null-requires (merge-member-claims t) (merge-member-at t) merge-member.Post
 merge-member-is-null-requires t c κs = let (d, (e, x, f)) = c .before .before .before .before .before .before .before .pre .1 in patch-stands (c .before .if1 .left) x
@@ -117,7 +125,14 @@ merge-member-returns-2 : (t : ℕ) → merge-member-lts.Need-returns-2 (merge-me
 merge-member-returns-2 t c = ((λ e x. null-gives (c .before .before .before .if1 .left) (c .before .is-null .ensures) _ _ (c .if2 .taken) x), (refl, refl))
 
 merge-member-emit-key-requires : (t : ℕ) → merge-member-lts.Need-emit-key-requires (merge-member-claims t) (merge-member-at t) merge-member.Post
-merge-member-emit-key-requires t c κs = let (d, (e, x, f)) = c .before .before .before .before .before .before .before .before .before .before .before .pre .1 in let (l, n) = name-there (c .before .before .before .before .before .if1 .left) (c .before .before .before .is-null .ensures) (c .before .before .if2 .left) x in (l, n, name-fits (c .before .before .before .before .before .if1 .left) (c .before .before .before .is-null .ensures) (c .before .before .if2 .left) x f)
+merge-member-emit-key-requires t c κs =
+    let at-if2 = c .before .before in
+    let at-is-null = at-if2 .before in
+    let at-if1 = at-is-null .before .before in
+    let start = at-if1 .before .before .before .before .before .before in
+    let (d, (e, x, f)) = start .pre .1 in
+    let (l, n) = name-there (at-if1 .if1 .left) (at-is-null .is-null .ensures) (at-if2 .if2 .left) x in
+    (l, n, name-fits (at-if1 .if1 .left) (at-is-null .is-null .ensures) (at-if2 .if2 .left) x f)
 
 merge-member-old-of-requires : (t : ℕ) → merge-member-lts.Need-old-of-requires (merge-member-claims t) (merge-member-at t) merge-member.Post
 merge-member-old-of-requires t c κs = search needs
@@ -126,19 +141,47 @@ merge-member-rest-at-requires : (t : ℕ) → merge-member-lts.Need-rest-at-requ
 merge-member-rest-at-requires t c κs = search needs
 
 merge-member-sub-merge-value : (t : ℕ) → merge-member-lts.Need-sub-merge-value (merge-member-claims t) (merge-member-at t) merge-member.Post
-merge-member-sub-merge-value t c = let (d, (e, x, f)) = c .before .before .before .before .before .before .before .before .before .before .before .before .before .before .before .before .before .before .pre .1 in value-start (c .before .before .before .before .before .before .before .before .before .before .before .before .if1 .left) (c .before .before .before .before .before .before .before .before .before .before .is-null .ensures) (c .before .before .before .before .before .before .before .before .before .if2 .left) x (name-fits (c .before .before .before .before .before .before .before .before .before .before .before .before .if1 .left) (c .before .before .before .before .before .before .before .before .before .before .is-null .ensures) (c .before .before .before .before .before .before .before .before .before .if2 .left) x f .room) (c .before .before .before .before .before .before .emit-key .ensures) (c .before .before .rest-at .ensures) (c .before .before .before .old-of .ensures)
+merge-member-sub-merge-value t c =
+    let at-rest-at = c .before .before in
+    let at-old-of = at-rest-at .before in
+    let at-emit-key = at-old-of .before .before .before in
+    let at-if2 = at-emit-key .before .before .before in
+    let at-is-null = at-if2 .before in
+    let at-if1 = at-is-null .before .before in
+    let start = at-if1 .before .before .before .before .before .before in
+    let (d, (e, x, f)) = start .pre .1 in
+    value-start (at-if1 .if1 .left) (at-is-null .is-null .ensures) (at-if2 .if2 .left) x (name-fits (at-if1 .if1 .left) (at-is-null .is-null .ensures) (at-if2 .if2 .left) x f .room) (at-emit-key .emit-key .ensures) (at-rest-at .rest-at .ensures) (at-old-of .old-of .ensures)
 
 merge-member-part-merge-value-start : (t : ℕ) → merge-member-lts.Need-part-merge-value-start (merge-member-claims t) (merge-member-at t) merge-member.Post
-merge-member-part-merge-value-start t c = let (d, (e, x, f)) = c .before .before .before .before .before .before .before .before .before .before .before .before .before .before .before .before .before .before .pre .1 in value-start (c .before .before .before .before .before .before .before .before .before .before .before .before .if1 .left) (c .before .before .before .before .before .before .before .before .before .before .is-null .ensures) (c .before .before .before .before .before .before .before .before .before .if2 .left) x (name-fits (c .before .before .before .before .before .before .before .before .before .before .before .before .if1 .left) (c .before .before .before .before .before .before .before .before .before .before .is-null .ensures) (c .before .before .before .before .before .before .before .before .before .if2 .left) x f .room) (c .before .before .before .before .before .before .emit-key .ensures) (c .before .before .rest-at .ensures) (c .before .before .before .old-of .ensures)
+merge-member-part-merge-value-start t c = merge-member-sub-merge-value t c
 
 merge-member-part-merge-value-end : (t : ℕ) → merge-member-lts.Need-part-merge-value-end (merge-member-claims t) (merge-member-at t) merge-member.Post
 merge-member-part-merge-value-end t c = search needs
 
 merge-member-merge-value-requires : (t : ℕ) → merge-member-lts.Need-merge-value-requires (merge-member-claims t) (merge-member-at t) merge-member.Post
-merge-member-merge-value-requires t c κs = let (d, (e, x, f)) = c .before .before .before .before .before .before .before .before .before .before .before .before .before .before .before .before .before .before .before .pre .1 in (omega (arith, c .before .before .before .before .before .before .before .before .before .before .before .before .before .before .before .before .before .before .before .pre .0), (d, value-asks (c .before .before .before .before .before .before .before .before .before .before .before .before .before .if1 .left) (c .before .before .before .before .before .before .before .before .before .before .before .is-null .ensures) (c .before .before .before .before .before .before .before .before .before .before .if2 .left) x (name-fits (c .before .before .before .before .before .before .before .before .before .before .before .before .before .if1 .left) (c .before .before .before .before .before .before .before .before .before .before .before .is-null .ensures) (c .before .before .before .before .before .before .before .before .before .before .if2 .left) x f .room) (c .before .before .before .before .before .before .before .emit-key .ensures) (c .before .before .before .rest-at .ensures) (c .before .before .before .before .old-of .ensures) f))
+merge-member-merge-value-requires t c κs =
+    let at-rest-at = c .before .before .before in
+    let at-old-of = at-rest-at .before in
+    let at-emit-key = at-old-of .before .before .before in
+    let at-if2 = at-emit-key .before .before .before in
+    let at-is-null = at-if2 .before in
+    let at-if1 = at-is-null .before .before in
+    let start = at-if1 .before .before .before .before .before .before in
+    let (d, (e, x, f)) = start .pre .1 in
+    (omega (arith, start .pre .0), (d, value-asks (at-if1 .if1 .left) (at-is-null .is-null .ensures) (at-if2 .if2 .left) x (name-fits (at-if1 .if1 .left) (at-is-null .is-null .ensures) (at-if2 .if2 .left) x f .room) (at-emit-key .emit-key .ensures) (at-rest-at .rest-at .ensures) (at-old-of .old-of .ensures) f))
 
 merge-member-add-result : (t : ℕ) → merge-member-lts.Need-add-result (merge-member-claims t) (merge-member-at t) merge-member.Post
-merge-member-add-result t c = let (d, (e, x, f)) = c .before .before .before .before .before .before .before .before .before .before .before .before .before .before .before .before .before .before .before .before .before .before .before .before .before .before .pre .1 in omega (arith, f .few, (value-gives (c .before .before .before .before .before .before .before .before .before .before .before .before .before .before .before .before .before .before .before .before .if1 .left) (c .before .before .before .before .before .before .before .before .before .before .before .before .before .before .before .before .before .before .is-null .ensures) (c .before .before .before .before .before .before .before .before .before .before .before .before .before .before .before .before .before .if2 .left) x (name-fits (c .before .before .before .before .before .before .before .before .before .before .before .before .before .before .before .before .before .before .before .before .if1 .left) (c .before .before .before .before .before .before .before .before .before .before .before .before .before .before .before .before .before .before .is-null .ensures) (c .before .before .before .before .before .before .before .before .before .before .before .before .before .before .before .before .before .if2 .left) x f .room) (c .before .before .before .before .before .before .before .before .before .before .before .before .before .before .emit-key .ensures) (c .before .before .before .before .before .before .before .before .before .before .rest-at .ensures) (c .before .before .before .before .before .before .before .before .before .before .before .old-of .ensures) (c .before .before .before .before .before .before .merge-value .ensures .0)) .count)
+merge-member-add-result t c =
+    let at-merge-value = c .before .before .before .before .before .before in
+    let at-rest-at = at-merge-value .before .before .before .before in
+    let at-old-of = at-rest-at .before in
+    let at-emit-key = at-old-of .before .before .before in
+    let at-if2 = at-emit-key .before .before .before in
+    let at-is-null = at-if2 .before in
+    let at-if1 = at-is-null .before .before in
+    let start = at-if1 .before .before .before .before .before .before in
+    let (d, (e, x, f)) = start .pre .1 in
+    omega (arith, f .few, (value-gives (at-if1 .if1 .left) (at-is-null .is-null .ensures) (at-if2 .if2 .left) x (name-fits (at-if1 .if1 .left) (at-is-null .is-null .ensures) (at-if2 .if2 .left) x f .room) (at-emit-key .emit-key .ensures) (at-rest-at .rest-at .ensures) (at-old-of .old-of .ensures) (at-merge-value .merge-value .ensures .0)) .count)
 
 merge-member-same-length-4 : (t : ℕ) → merge-member-lts.Need-same-length-4 (merge-member-claims t) (merge-member-at t) merge-member.Post
 merge-member-same-length-4 t c = ap length (c .before .before .before .before .before .before .merge-value .ensures .1 .0)
@@ -147,10 +190,30 @@ merge-member-same-length-5 : (t : ℕ) → merge-member-lts.Need-same-length-5 (
 merge-member-same-length-5 t c = ap length (c .before .before .before .before .before .before .merge-value .ensures .1 .1)
 
 merge-member-same-length-6 : (t : ℕ) → merge-member-lts.Need-same-length-6 (merge-member-claims t) (merge-member-at t) merge-member.Post
-merge-member-same-length-6 t c = let (d, (e, x, f)) = c .before .before .before .before .before .before .before .before .before .before .before .before .before .before .before .before .before .before .before .before .before .before .before .before .before .before .pre .1 in emit-length (value-gives (c .before .before .before .before .before .before .before .before .before .before .before .before .before .before .before .before .before .before .before .before .if1 .left) (c .before .before .before .before .before .before .before .before .before .before .before .before .before .before .before .before .before .before .is-null .ensures) (c .before .before .before .before .before .before .before .before .before .before .before .before .before .before .before .before .before .if2 .left) x (name-fits (c .before .before .before .before .before .before .before .before .before .before .before .before .before .before .before .before .before .before .before .before .if1 .left) (c .before .before .before .before .before .before .before .before .before .before .before .before .before .before .before .before .before .before .is-null .ensures) (c .before .before .before .before .before .before .before .before .before .before .before .before .before .before .before .before .before .if2 .left) x f .room) (c .before .before .before .before .before .before .before .before .before .before .before .before .before .before .emit-key .ensures) (c .before .before .before .before .before .before .before .before .before .before .rest-at .ensures) (c .before .before .before .before .before .before .before .before .before .before .before .old-of .ensures) (c .before .before .before .before .before .before .merge-value .ensures .0)) (f .room)
+merge-member-same-length-6 t c =
+    let at-merge-value = c .before .before .before .before .before .before in
+    let at-rest-at = at-merge-value .before .before .before .before in
+    let at-old-of = at-rest-at .before in
+    let at-emit-key = at-old-of .before .before .before in
+    let at-if2 = at-emit-key .before .before .before in
+    let at-is-null = at-if2 .before in
+    let at-if1 = at-is-null .before .before in
+    let start = at-if1 .before .before .before .before .before .before in
+    let (d, (e, x, f)) = start .pre .1 in
+    emit-length (value-gives (at-if1 .if1 .left) (at-is-null .is-null .ensures) (at-if2 .if2 .left) x (name-fits (at-if1 .if1 .left) (at-is-null .is-null .ensures) (at-if2 .if2 .left) x f .room) (at-emit-key .emit-key .ensures) (at-rest-at .rest-at .ensures) (at-old-of .old-of .ensures) (at-merge-value .merge-value .ensures .0)) (f .room)
 
 merge-member-returns-3 : (t : ℕ) → merge-member-lts.Need-returns-3 (merge-member-claims t) (merge-member-at t) merge-member.Post
-merge-member-returns-3 t c = let (d, (e, x, f)) = c .before .before .before .before .before .before .before .before .before .before .before .before .before .before .before .before .before .before .before .before .before .before .before .before .before .before .pre .1 in ((λ z y. value-gives (c .before .before .before .before .before .before .before .before .before .before .before .before .before .before .before .before .before .before .before .before .if1 .left) (c .before .before .before .before .before .before .before .before .before .before .before .before .before .before .before .before .before .before .is-null .ensures) (c .before .before .before .before .before .before .before .before .before .before .before .before .before .before .before .before .before .if2 .left) y (name-fits (c .before .before .before .before .before .before .before .before .before .before .before .before .before .before .before .before .before .before .before .before .if1 .left) (c .before .before .before .before .before .before .before .before .before .before .before .before .before .before .before .before .before .before .is-null .ensures) (c .before .before .before .before .before .before .before .before .before .before .before .before .before .before .before .before .before .if2 .left) x f .room) (c .before .before .before .before .before .before .before .before .before .before .before .before .before .before .emit-key .ensures) (c .before .before .before .before .before .before .before .before .before .before .rest-at .ensures) (c .before .before .before .before .before .before .before .before .before .before .before .old-of .ensures) (c .before .before .before .before .before .before .merge-value .ensures .0)), c .before .before .before .before .before .before .merge-value .ensures .1)
+merge-member-returns-3 t c =
+    let at-merge-value = c .before .before .before .before .before .before in
+    let at-rest-at = at-merge-value .before .before .before .before in
+    let at-old-of = at-rest-at .before in
+    let at-emit-key = at-old-of .before .before .before in
+    let at-if2 = at-emit-key .before .before .before in
+    let at-is-null = at-if2 .before in
+    let at-if1 = at-is-null .before .before in
+    let start = at-if1 .before .before .before .before .before .before in
+    let (d, (e, x, f)) = start .pre .1 in
+    ((λ z y. value-gives (at-if1 .if1 .left) (at-is-null .is-null .ensures) (at-if2 .if2 .left) y (name-fits (at-if1 .if1 .left) (at-is-null .is-null .ensures) (at-if2 .if2 .left) x f .room) (at-emit-key .emit-key .ensures) (at-rest-at .rest-at .ensures) (at-old-of .old-of .ensures) (at-merge-value .merge-value .ensures .0)), at-merge-value .merge-value .ensures .1)
 
 abbrev merge-members-Inv-loop : merge-members-lts.InvT-loop
 merge-members-Inv-loop target olds₀ a m patch news₀ b n depth on out₀ at₀ x₀ i₀ y₀ j₀ olds news out at x i y j =
@@ -173,37 +236,132 @@ merge-members-rest-at-requires : (t : ℕ) → merge-members-lts.Need-rest-at-re
 merge-members-rest-at-requires t c κs = search needs
 
 merge-members-sub-merge-member : (t : ℕ) → merge-members-lts.Need-sub-merge-member (merge-members-claims t) (merge-members-at t) merge-members.Post merge-members-Inv-loop merge-members-μ-loop
-merge-members-sub-merge-member t c = let (d, (e, x, f)) = c .before .before .before .before .before .before .before .before .before .before .before .before .before .before .pre .1 in let v = c .before .before .before .before .before .before .before .before .loop .inv in let g = v .2 e x in going-rest g (at-room g f) (c .before .before .rest-at .ensures)
+merge-members-sub-merge-member t c =
+    let at-rest-at = c .before .before in
+    let at-loop = at-rest-at .before .before .before .before .before .before in
+    let start = at-loop .before .before .before .before .before .before in
+    let (d, (e, x, f)) = start .pre .1 in
+    let v = at-loop .loop .inv in
+    let g = v .2 e x in
+    going-rest g (at-room g f) (at-rest-at .rest-at .ensures)
 
 merge-members-part-merge-member-start : (t : ℕ) → merge-members-lts.Need-part-merge-member-start (merge-members-claims t) (merge-members-at t) merge-members.Post merge-members-Inv-loop merge-members-μ-loop
-merge-members-part-merge-member-start t c = let (d, (e, x, f)) = c .before .before .before .before .before .before .before .before .before .before .before .before .before .before .pre .1 in let v = c .before .before .before .before .before .before .before .before .loop .inv in let g = v .2 e x in going-rest g (at-room g f) (c .before .before .rest-at .ensures)
+merge-members-part-merge-member-start t c = merge-members-sub-merge-member t c
 
 merge-members-part-merge-member-end : (t : ℕ) → merge-members-lts.Need-part-merge-member-end (merge-members-claims t) (merge-members-at t) merge-members.Post merge-members-Inv-loop merge-members-μ-loop
 merge-members-part-merge-member-end t c = search needs
 
 merge-members-merge-member-requires : (t : ℕ) → merge-members-lts.Need-merge-member-requires (merge-members-claims t) (merge-members-at t) merge-members.Post merge-members-Inv-loop merge-members-μ-loop
-merge-members-merge-member-requires t c κs = let (d, (e, x, f)) = c .before .before .before .before .before .before .before .before .before .before .before .before .before .before .before .pre .1 in let v = c .before .before .before .before .before .before .before .before .before .loop .inv in let g = v .2 e x in let n = going-next g (v .0) (v .1) (c .before .before .before .before .before .before .before .before .loop-test .taken) (c .before .before .before .before .before .turn .ensures) (c .before .before .before .before .mark-at .ensures) in (omega (arith, c .before .before .before .before .before .before .before .before .before .before .before .before .before .before .before .pre .0), (d, (n .entry, takes-same (v .0) (v .1) (n .takes), next-fits g (at-room g f) (c .before .before .before .rest-at .ensures) n f)))
+merge-members-merge-member-requires t c κs =
+    let at-rest-at = c .before .before .before in
+    let at-mark-at = at-rest-at .before in
+    let at-turn = at-mark-at .before in
+    let at-loop-test = at-turn .before .before .before in
+    let at-loop = at-loop-test .before in
+    let start = at-loop .before .before .before .before .before .before in
+    let (d, (e, x, f)) = start .pre .1 in
+    let v = at-loop .loop .inv in
+    let g = v .2 e x in
+    let n = going-next g (v .0) (v .1) (at-loop-test .loop-test .taken) (at-turn .turn .ensures) (at-mark-at .mark-at .ensures) in
+    (omega (arith, start .pre .0), (d, (n .entry, takes-same (v .0) (v .1) (n .takes), next-fits g (at-room g f) (at-rest-at .rest-at .ensures) n f)))
 
 merge-members-add-at : (t : ℕ) → merge-members-lts.Need-add-at (merge-members-claims t) (merge-members-at t) merge-members.Post merge-members-Inv-loop merge-members-μ-loop
-merge-members-add-at t c = let (d, (e, x, f)) = c .before .before .before .before .before .before .before .before .before .before .before .before .before .before .before .before .before .before .before .before .before .before .pre .1 in let v = c .before .before .before .before .before .before .before .before .before .before .before .before .before .before .before .before .loop .inv in let g = v .2 e x in let n = going-next g (v .0) (v .1) (c .before .before .before .before .before .before .before .before .before .before .before .before .before .before .before .loop-test .taken) (c .before .before .before .before .before .before .before .before .before .before .before .before .turn .ensures) (c .before .before .before .before .before .before .before .before .before .before .before .mark-at .ensures) in omega (arith, next-few g (at-room g f) (c .before .before .before .before .before .before .before .before .before .before .rest-at .ensures) n f (c .before .before .before .before .before .before .merge-member .ensures .0 _ (takes-same (v .0) (v .1) (n .takes))))
+merge-members-add-at t c =
+    let at-merge-member = c .before .before .before .before .before .before in
+    let at-rest-at = at-merge-member .before .before .before .before in
+    let at-mark-at = at-rest-at .before in
+    let at-turn = at-mark-at .before in
+    let at-loop-test = at-turn .before .before .before in
+    let at-loop = at-loop-test .before in
+    let start = at-loop .before .before .before .before .before .before in
+    let (d, (e, x, f)) = start .pre .1 in
+    let v = at-loop .loop .inv in
+    let g = v .2 e x in
+    let n = going-next g (v .0) (v .1) (at-loop-test .loop-test .taken) (at-turn .turn .ensures) (at-mark-at .mark-at .ensures) in
+    omega (arith, next-few g (at-room g f) (at-rest-at .rest-at .ensures) n f (at-merge-member .merge-member .ensures .0 _ (takes-same (v .0) (v .1) (n .takes))))
 
 merge-members-onward-if-requires : (t : ℕ) → merge-members-lts.Need-onward-if-requires (merge-members-claims t) (merge-members-at t) merge-members.Post merge-members-Inv-loop merge-members-μ-loop
-merge-members-onward-if-requires t c κs = let (d, (e, x, f)) = c .before .before .before .before .before .before .before .before .before .before .before .before .before .before .before .before .before .before .before .before .before .before .before .pre .1 in let v = c .before .before .before .before .before .before .before .before .before .before .before .before .before .before .before .before .before .loop .inv in let g = v .2 e x in let n = going-next g (v .0) (v .1) (c .before .before .before .before .before .before .before .before .before .before .before .before .before .before .before .before .loop-test .taken) (c .before .before .before .before .before .before .before .before .before .before .before .before .before .turn .ensures) (c .before .before .before .before .before .before .before .before .before .before .before .before .mark-at .ensures) in λ l. first-named (c .before .before .before .before .before .before .before .merge-member .ensures .1 .0 ∙ v .0) (g .target) (n .turns .0 l) .0
+merge-members-onward-if-requires t c κs =
+    let at-merge-member = c .before .before .before .before .before .before .before in
+    let at-mark-at = at-merge-member .before .before .before .before .before in
+    let at-turn = at-mark-at .before in
+    let at-loop-test = at-turn .before .before .before in
+    let at-loop = at-loop-test .before in
+    let start = at-loop .before .before .before .before .before .before in
+    let (d, (e, x, f)) = start .pre .1 in
+    let v = at-loop .loop .inv in
+    let g = v .2 e x in
+    let n = going-next g (v .0) (v .1) (at-loop-test .loop-test .taken) (at-turn .turn .ensures) (at-mark-at .mark-at .ensures) in λ l. first-named (at-merge-member .merge-member .ensures .1 .0 ∙ v .0) (g .target) (n .turns .0 l) .0
 
 merge-members-fewer-if-requires : (t : ℕ) → merge-members-lts.Need-fewer-if-requires (merge-members-claims t) (merge-members-at t) merge-members.Post merge-members-Inv-loop merge-members-μ-loop
-merge-members-fewer-if-requires t c κs = let (d, (e, x, f)) = c .before .before .before .before .before .before .before .before .before .before .before .before .before .before .before .before .before .before .before .before .before .before .before .before .pre .1 in let v = c .before .before .before .before .before .before .before .before .before .before .before .before .before .before .before .before .before .before .loop .inv in let g = v .2 e x in let n = going-next g (v .0) (v .1) (c .before .before .before .before .before .before .before .before .before .before .before .before .before .before .before .before .before .loop-test .taken) (c .before .before .before .before .before .before .before .before .before .before .before .before .before .before .turn .ensures) (c .before .before .before .before .before .before .before .before .before .before .before .before .before .mark-at .ensures) in n .turns .0
+merge-members-fewer-if-requires t c κs =
+    let at-mark-at = c .before .before .before .before .before .before .before .before .before .before .before .before .before in
+    let at-turn = at-mark-at .before in
+    let at-loop-test = at-turn .before .before .before in
+    let at-loop = at-loop-test .before in
+    let start = at-loop .before .before .before .before .before .before in
+    let (d, (e, x, f)) = start .pre .1 in
+    let v = at-loop .loop .inv in
+    let g = v .2 e x in
+    let n = going-next g (v .0) (v .1) (at-loop-test .loop-test .taken) (at-turn .turn .ensures) (at-mark-at .mark-at .ensures) in
+    n .turns .0
 
 merge-members-onward-if-requires-2 : (t : ℕ) → merge-members-lts.Need-onward-if-requires-2 (merge-members-claims t) (merge-members-at t) merge-members.Post merge-members-Inv-loop merge-members-μ-loop
-merge-members-onward-if-requires-2 t c κs = let (d, (e, x, f)) = c .before .before .before .before .before .before .before .before .before .before .before .before .before .before .before .before .before .before .before .before .before .before .before .before .before .before .pre .1 in let v = c .before .before .before .before .before .before .before .before .before .before .before .before .before .before .before .before .before .before .before .before .loop .inv in let g = v .2 e x in let n = going-next g (v .0) (v .1) (c .before .before .before .before .before .before .before .before .before .before .before .before .before .before .before .before .before .before .before .loop-test .taken) (c .before .before .before .before .before .before .before .before .before .before .before .before .before .before .before .before .turn .ensures) (c .before .before .before .before .before .before .before .before .before .before .before .before .before .before .before .mark-at .ensures) in λ l. first-named (c .before .before .before .before .before .before .before .before .before .before .merge-member .ensures .1 .1 ∙ v .1) (g .patch) (n .turns .1 l) .0
+merge-members-onward-if-requires-2 t c κs =
+    let at-merge-member = c .before .before .before .before .before .before .before .before .before .before in
+    let at-mark-at = at-merge-member .before .before .before .before .before in
+    let at-turn = at-mark-at .before in
+    let at-loop-test = at-turn .before .before .before in
+    let at-loop = at-loop-test .before in
+    let start = at-loop .before .before .before .before .before .before in
+    let (d, (e, x, f)) = start .pre .1 in
+    let v = at-loop .loop .inv in
+    let g = v .2 e x in
+    let n = going-next g (v .0) (v .1) (at-loop-test .loop-test .taken) (at-turn .turn .ensures) (at-mark-at .mark-at .ensures) in λ l. first-named (at-merge-member .merge-member .ensures .1 .1 ∙ v .1) (g .patch) (n .turns .1 l) .0
 
 merge-members-fewer-if-requires-2 : (t : ℕ) → merge-members-lts.Need-fewer-if-requires-2 (merge-members-claims t) (merge-members-at t) merge-members.Post merge-members-Inv-loop merge-members-μ-loop
-merge-members-fewer-if-requires-2 t c κs = let (d, (e, x, f)) = c .before .before .before .before .before .before .before .before .before .before .before .before .before .before .before .before .before .before .before .before .before .before .before .before .before .before .before .pre .1 in let v = c .before .before .before .before .before .before .before .before .before .before .before .before .before .before .before .before .before .before .before .before .before .loop .inv in let g = v .2 e x in let n = going-next g (v .0) (v .1) (c .before .before .before .before .before .before .before .before .before .before .before .before .before .before .before .before .before .before .before .before .loop-test .taken) (c .before .before .before .before .before .before .before .before .before .before .before .before .before .before .before .before .before .turn .ensures) (c .before .before .before .before .before .before .before .before .before .before .before .before .before .before .before .before .mark-at .ensures) in n .turns .1
+merge-members-fewer-if-requires-2 t c κs =
+    let at-mark-at = c .before .before .before .before .before .before .before .before .before .before .before .before .before .before .before .before in
+    let at-turn = at-mark-at .before in
+    let at-loop-test = at-turn .before .before .before in
+    let at-loop = at-loop-test .before in
+    let start = at-loop .before .before .before .before .before .before in
+    let (d, (e, x, f)) = start .pre .1 in
+    let v = at-loop .loop .inv in
+    let g = v .2 e x in
+    let n = going-next g (v .0) (v .1) (at-loop-test .loop-test .taken) (at-turn .turn .ensures) (at-mark-at .mark-at .ensures) in
+    n .turns .1
 
 merge-members-loop-less : (t : ℕ) → merge-members-lts.Need-loop-less (merge-members-claims t) (merge-members-at t) merge-members.Post merge-members-Inv-loop merge-members-μ-loop
-merge-members-loop-less t c = let (d, (e, x, f)) = c .before .before .before .before .before .before .before .before .before .before .before .before .before .before .before .before .before .before .before .before .before .before .before .before .before .before .before .before .pre .1 in let v = c .before .before .before .before .before .before .before .before .before .before .before .before .before .before .before .before .before .before .before .before .before .before .loop .inv in let g = v .2 e x in let n = going-next g (v .0) (v .1) (c .before .before .before .before .before .before .before .before .before .before .before .before .before .before .before .before .before .before .before .before .before .loop-test .taken) (c .before .before .before .before .before .before .before .before .before .before .before .before .before .before .before .before .before .before .turn .ensures) (c .before .before .before .before .before .before .before .before .before .before .before .before .before .before .before .before .before .mark-at .ensures) in omega (arith, n .less, c .before .before .before .fewer-if .ensures, c .fewer-if2 .ensures)
+merge-members-loop-less t c =
+    let at-fewer-if = c .before .before .before in
+    let at-mark-at = at-fewer-if .before .before .before .before .before .before .before .before .before .before .before .before .before .before in
+    let at-turn = at-mark-at .before in
+    let at-loop-test = at-turn .before .before .before in
+    let at-loop = at-loop-test .before in
+    let start = at-loop .before .before .before .before .before .before in
+    let (d, (e, x, f)) = start .pre .1 in
+    let v = at-loop .loop .inv in
+    let g = v .2 e x in
+    let n = going-next g (v .0) (v .1) (at-loop-test .loop-test .taken) (at-turn .turn .ensures) (at-mark-at .mark-at .ensures) in
+    omega (arith, n .less, at-fewer-if .fewer-if .ensures, c .fewer-if2 .ensures)
 
 merge-members-loop-again : (t : ℕ) → merge-members-lts.Need-loop-again (merge-members-claims t) (merge-members-at t) merge-members.Post merge-members-Inv-loop merge-members-μ-loop
-merge-members-loop-again t c = let (d, (e, x, f)) = c .before .before .before .before .before .before .before .before .before .before .before .before .before .before .before .before .before .before .before .before .before .before .before .before .before .before .before .before .pre .1 in let v = c .before .before .before .before .before .before .before .before .before .before .before .before .before .before .before .before .before .before .before .before .before .before .loop .inv in let g = v .2 e x in (c .before .before .before .before .before .before .before .before .before .before .before .before .merge-member .ensures .1 .0 ∙ v .0, c .before .before .before .before .before .before .before .before .before .before .before .before .merge-member .ensures .1 .1 ∙ v .1, λ q s. let h = v .2 q s in let n = going-next h (v .0) (v .1) (c .before .before .before .before .before .before .before .before .before .before .before .before .before .before .before .before .before .before .before .before .before .loop-test .taken) (c .before .before .before .before .before .before .before .before .before .before .before .before .before .before .before .before .before .before .turn .ensures) (c .before .before .before .before .before .before .before .before .before .before .before .before .before .before .before .before .before .mark-at .ensures) in going-turn h (at-room g f) (c .before .before .before .before .before .before .before .before .before .before .before .before .before .before .before .before .rest-at .ensures) n (c .before .before .before .before .before .before .before .before .before .before .before .before .merge-member .ensures .0 _ (takes-same (v .0) (v .1) (n .takes))) (onward-same _ _ (c .before .before .before .before .before .before .before .before .before .before .before .before .merge-member .ensures .1 .0 ∙ v .0) (c .before .before .before .before .onward-if .ensures)) (c .before .before .before .fewer-if .ensures) (onward-same _ _ (c .before .before .before .before .before .before .before .before .before .before .before .before .merge-member .ensures .1 .1 ∙ v .1) (c .before .onward-if2 .ensures)) (c .fewer-if2 .ensures))
+merge-members-loop-again t c =
+    let at-onward-if2 = c .before in
+    let at-fewer-if = at-onward-if2 .before .before in
+    let at-onward-if = at-fewer-if .before in
+    let at-merge-member = at-onward-if .before .before .before .before .before .before .before .before in
+    let at-rest-at = at-merge-member .before .before .before .before in
+    let at-mark-at = at-rest-at .before in
+    let at-turn = at-mark-at .before in
+    let at-loop-test = at-turn .before .before .before in
+    let at-loop = at-loop-test .before in
+    let start = at-loop .before .before .before .before .before .before in
+    let (d, (e, x, f)) = start .pre .1 in
+    let v = at-loop .loop .inv in
+    let g = v .2 e x in
+    (at-merge-member .merge-member .ensures .1 .0 ∙ v .0, at-merge-member .merge-member .ensures .1 .1 ∙ v .1, λ q s. let h = v .2 q s in let n = going-next h (v .0) (v .1) (at-loop-test .loop-test .taken) (at-turn .turn .ensures) (at-mark-at .mark-at .ensures) in going-turn h (at-room g f) (at-rest-at .rest-at .ensures) n (at-merge-member .merge-member .ensures .0 _ (takes-same (v .0) (v .1) (n .takes))) (onward-same _ _ (at-merge-member .merge-member .ensures .1 .0 ∙ v .0) (at-onward-if .onward-if .ensures)) (at-fewer-if .fewer-if .ensures) (onward-same _ _ (at-merge-member .merge-member .ensures .1 .1 ∙ v .1) (at-onward-if2 .onward-if2 .ensures)) (c .fewer-if2 .ensures))
 
 merge-members-rest-at-requires-2 : (t : ℕ) → merge-members-lts.Need-rest-at-requires-2 (merge-members-claims t) (merge-members-at t) merge-members.Post merge-members-Inv-loop merge-members-μ-loop
 merge-members-rest-at-requires-2 t c κs = search needs
@@ -212,7 +370,7 @@ merge-members-sub-emit-end : (t : ℕ) → merge-members-lts.Need-sub-emit-end (
 merge-members-sub-emit-end t c = let (d, (e, x, f)) = c .before .before .before .before .before .before .before .before .pre .1 in let v = c .before .before .loop .inv in let g = v .2 e x in going-rest g (at-room g f) (c .rest-at2 .ensures)
 
 merge-members-part-emit-end-start : (t : ℕ) → merge-members-lts.Need-part-emit-end-start (merge-members-claims t) (merge-members-at t) merge-members.Post merge-members-Inv-loop merge-members-μ-loop
-merge-members-part-emit-end-start t c = let (d, (e, x, f)) = c .before .before .before .before .before .before .before .before .pre .1 in let v = c .before .before .loop .inv in let g = v .2 e x in going-rest g (at-room g f) (c .rest-at2 .ensures)
+merge-members-part-emit-end-start t c = merge-members-sub-emit-end t c
 
 merge-members-part-emit-end-end : (t : ℕ) → merge-members-lts.Need-part-emit-end-end (merge-members-claims t) (merge-members-at t) merge-members.Post merge-members-Inv-loop merge-members-μ-loop
 merge-members-part-emit-end-end t c = search needs
@@ -221,7 +379,17 @@ merge-members-emit-end-requires : (t : ℕ) → merge-members-lts.Need-emit-end-
 merge-members-emit-end-requires t c κs = let (d, (e, x, f)) = c .before .before .before .before .before .before .before .before .before .pre .1 in let v = c .before .before .before .loop .inv in let g = v .2 e x in let (l, m) = both-empty _ _ (c .before .before .loop-test .left) in end-fits g (at-room g f) (c .before .rest-at2 .ensures) l m f
 
 merge-members-add-result : (t : ℕ) → merge-members-lts.Need-add-result (merge-members-claims t) (merge-members-at t) merge-members.Post merge-members-Inv-loop merge-members-μ-loop
-merge-members-add-result t c = let (d, (e, x, f)) = c .before .before .before .before .before .before .before .before .before .before .before .before .pre .1 in let v = c .before .before .before .before .before .before .loop .inv in let g = v .2 e x in let (l, m) = both-empty _ _ (c .before .before .before .before .before .loop-test .left) in omega (arith, f .few, (going-end g (at-room g f) (c .before .before .before .before .rest-at2 .ensures) l m (c .before .before .emit-end .ensures)) .count)
+merge-members-add-result t c =
+    let at-emit-end = c .before .before in
+    let at-rest-at2 = at-emit-end .before .before in
+    let at-loop-test = at-rest-at2 .before in
+    let at-loop = at-loop-test .before in
+    let start = at-loop .before .before .before .before .before .before in
+    let (d, (e, x, f)) = start .pre .1 in
+    let v = at-loop .loop .inv in
+    let g = v .2 e x in
+    let (l, m) = both-empty _ _ (at-loop-test .loop-test .left) in
+    omega (arith, f .few, (going-end g (at-room g f) (at-rest-at2 .rest-at2 .ensures) l m (at-emit-end .emit-end .ensures)) .count)
 
 merge-members-same-length : (t : ℕ) → merge-members-lts.Need-same-length (merge-members-claims t) (merge-members-at t) merge-members.Post merge-members-Inv-loop merge-members-μ-loop
 merge-members-same-length t c = ap length (c .before .before .before .before .before .before .loop .inv .0)
@@ -230,10 +398,30 @@ merge-members-same-length-2 : (t : ℕ) → merge-members-lts.Need-same-length-2
 merge-members-same-length-2 t c = ap length (c .before .before .before .before .before .before .loop .inv .1)
 
 merge-members-same-length-3 : (t : ℕ) → merge-members-lts.Need-same-length-3 (merge-members-claims t) (merge-members-at t) merge-members.Post merge-members-Inv-loop merge-members-μ-loop
-merge-members-same-length-3 t c = let (d, (e, x, f)) = c .before .before .before .before .before .before .before .before .before .before .before .before .pre .1 in let v = c .before .before .before .before .before .before .loop .inv in let g = v .2 e x in let (l, m) = both-empty _ _ (c .before .before .before .before .before .loop-test .left) in emit-length (going-end g (at-room g f) (c .before .before .before .before .rest-at2 .ensures) l m (c .before .before .emit-end .ensures)) (f .room)
+merge-members-same-length-3 t c =
+    let at-emit-end = c .before .before in
+    let at-rest-at2 = at-emit-end .before .before in
+    let at-loop-test = at-rest-at2 .before in
+    let at-loop = at-loop-test .before in
+    let start = at-loop .before .before .before .before .before .before in
+    let (d, (e, x, f)) = start .pre .1 in
+    let v = at-loop .loop .inv in
+    let g = v .2 e x in
+    let (l, m) = both-empty _ _ (at-loop-test .loop-test .left) in
+    emit-length (going-end g (at-room g f) (at-rest-at2 .rest-at2 .ensures) l m (at-emit-end .emit-end .ensures)) (f .room)
 
 merge-members-returns : (t : ℕ) → merge-members-lts.Need-returns (merge-members-claims t) (merge-members-at t) merge-members.Post merge-members-Inv-loop merge-members-μ-loop
-merge-members-returns t c = let (d, (e, x, f)) = c .before .before .before .before .before .before .before .before .before .before .before .before .pre .1 in let v = c .before .before .before .before .before .before .loop .inv in let g = v .2 e x in let (l, m) = both-empty _ _ (c .before .before .before .before .before .loop-test .left) in ((λ q s. going-end (v .2 q s) (at-room g f) (c .before .before .before .before .rest-at2 .ensures) l m (c .before .before .emit-end .ensures)), (v .0, v .1))
+merge-members-returns t c =
+    let at-emit-end = c .before .before in
+    let at-rest-at2 = at-emit-end .before .before in
+    let at-loop-test = at-rest-at2 .before in
+    let at-loop = at-loop-test .before in
+    let start = at-loop .before .before .before .before .before .before in
+    let (d, (e, x, f)) = start .pre .1 in
+    let v = at-loop .loop .inv in
+    let g = v .2 e x in
+    let (l, m) = both-empty _ _ (at-loop-test .loop-test .left) in
+    ((λ q s. going-end (v .2 q s) (at-room g f) (at-rest-at2 .rest-at2 .ensures) l m (at-emit-end .emit-end .ensures)), (v .0, v .1))
 
 merge-value-is-object-requires : (t : ℕ) → merge-value-lts.Need-is-object-requires (merge-value-claims t) (merge-value-at t) merge-value.Post
 merge-value-is-object-requires t c κs = let (d, (e, x, f)) = c .before .before .before .before .before .before .pre .1 in new-stands x
@@ -245,22 +433,45 @@ merge-value-same-length : (t : ℕ) → merge-value-lts.Need-same-length (merge-
 merge-value-same-length t c = ap length (c .before .before .before .before .emit-value .ensures .1)
 
 merge-value-same-length-2 : (t : ℕ) → merge-value-lts.Need-same-length-2 (merge-value-claims t) (merge-value-at t) merge-value.Post
-merge-value-same-length-2 t c = let (d, (e, x, f)) = c .before .before .before .before .before .before .before .before .before .before .before .before .before .before .before .pre .1 in emit-length (plain-gives (c .before .before .before .before .before .before .before .before .is-object .ensures) (c .before .before .before .before .before .before .before .if1 .taken) (c .before .before .before .before .emit-value .ensures .0) x) (f .room)
+merge-value-same-length-2 t c =
+    let at-emit-value = c .before .before .before .before in
+    let at-if1 = at-emit-value .before .before .before in
+    let at-is-object = at-if1 .before in
+    let start = at-is-object .before .before .before .before .before .before .before in
+    let (d, (e, x, f)) = start .pre .1 in
+    emit-length (plain-gives (at-is-object .is-object .ensures) (at-if1 .if1 .taken) (at-emit-value .emit-value .ensures .0) x) (f .room)
 
 merge-value-returns : (t : ℕ) → merge-value-lts.Need-returns (merge-value-claims t) (merge-value-at t) merge-value.Post
-merge-value-returns t c = ((λ e x. plain-gives (c .before .before .before .before .before .before .before .before .is-object .ensures) (c .before .before .before .before .before .before .before .if1 .taken) (c .before .before .before .before .emit-value .ensures .0) x), (refl, c .before .before .before .before .emit-value .ensures .1))
+merge-value-returns t c =
+    let at-emit-value = c .before .before .before .before in
+    let at-if1 = at-emit-value .before .before .before in
+    let at-is-object = at-if1 .before in
+    ((λ e x. plain-gives (at-is-object .is-object .ensures) (at-if1 .if1 .taken) (at-emit-value .emit-value .ensures .0) x), (refl, at-emit-value .emit-value .ensures .1))
 
 merge-value-enter-old-requires : (t : ℕ) → merge-value-lts.Need-enter-old-requires (merge-value-claims t) (merge-value-at t) merge-value.Post
 merge-value-enter-old-requires t c κs = let (d, (e, x, f)) = c .before .before .before .before .before .before .before .before .before .pre .1 in old-value x
 
 merge-value-enter-requires : (t : ℕ) → merge-value-lts.Need-enter-requires (merge-value-claims t) (merge-value-at t) merge-value.Post
-merge-value-enter-requires t c κs = let (d, (e, x, f)) = c .before .before .before .before .before .before .before .before .before .before .before .before .before .pre .1 in opens-stands (object (c .before .before .before .before .before .before .is-object .ensures) (c .before .before .before .before .before .if1 .left) x)
+merge-value-enter-requires t c κs =
+    let at-if1 = c .before .before .before .before .before in
+    let at-is-object = at-if1 .before in
+    let start = at-is-object .before .before .before .before .before .before .before in
+    let (d, (e, x, f)) = start .pre .1 in
+    opens-stands (object (at-is-object .is-object .ensures) (at-if1 .if1 .left) x)
 
 merge-value-add-merge-members : (t : ℕ) → merge-value-lts.Need-add-merge-members (merge-value-claims t) (merge-value-at t) merge-value.Post
 merge-value-add-merge-members t c = let (d, (e, x, f)) = c .before .before .before .before .before .before .before .before .before .before .before .before .before .before .before .before .before .before .pre .1 in omega (arith, d)
 
 merge-value-merge-members-requires : (t : ℕ) → merge-value-lts.Need-merge-members-requires (merge-value-claims t) (merge-value-at t) merge-value.Post
-merge-value-merge-members-requires t c κs = let (d, (e, x, f)) = c .before .before .before .before .before .before .before .before .before .before .before .before .before .before .before .before .before .before .before .pre .1 in let o = (object (c .before .before .before .before .before .before .before .before .before .before .before .before .is-object .ensures) (c .before .before .before .before .before .before .before .before .before .before .before .if1 .left) x) in (omega (arith, c .before .before .before .before .before .before .before .before .before .before .before .before .before .before .before .before .before .before .before .pre .0, opens-depth o), (omega (arith, opens-depth o), (e, opens-sides (c .before .before .before .before .before .before .before .before .before .enter-old .ensures .0) (c .before .before .before .before .before .enter .ensures .0) o, f)))
+merge-value-merge-members-requires t c κs =
+    let at-enter = c .before .before .before .before .before in
+    let at-enter-old = at-enter .before .before .before .before in
+    let at-if1 = at-enter-old .before .before in
+    let at-is-object = at-if1 .before in
+    let start = at-is-object .before .before .before .before .before .before .before in
+    let (d, (e, x, f)) = start .pre .1 in
+    let o = (object (at-is-object .is-object .ensures) (at-if1 .if1 .left) x) in
+    (omega (arith, start .pre .0, opens-depth o), (omega (arith, opens-depth o), (e, opens-sides (at-enter-old .enter-old .ensures .0) (at-enter .enter .ensures .0) o, f)))
 
 merge-value-add-clear : (t : ℕ) → merge-value-lts.Need-add-clear (merge-value-claims t) (merge-value-at t) merge-value.Post
 merge-value-add-clear t c = let (d, (e, x, f)) = c .before .before .before .before .before .before .before .before .before .before .before .before .before .before .before .before .before .before .before .before .before .before .before .before .before .before .before .pre .1 in omega (arith, old-small x)
@@ -272,19 +483,46 @@ merge-value-add-clear-2 : (t : ℕ) → merge-value-lts.Need-add-clear-2 (merge-
 merge-value-add-clear-2 t c = let (d, (e, x, f)) = c .before .before .before .before .before .before .before .before .before .before .before .before .before .before .before .before .before .before .before .before .before .before .before .before .before .before .before .before .before .before .before .pre .1 in omega (arith, new-small x)
 
 merge-value-clear-requires-2 : (t : ℕ) → merge-value-lts.Need-clear-requires-2 (merge-value-claims t) (merge-value-at t) merge-value.Post
-merge-value-clear-requires-2 t c κs = leaving (c .before .before .before .before .before .before .before .before .before .before .before .before .before .before .before .before .before .enter .ensures .1) (c .before .before .before .before .before .before .before .before .before .before .before .merge-members .ensures .1 .1)
+merge-value-clear-requires-2 t c κs =
+    let at-merge-members = c .before .before .before .before .before .before .before .before .before .before .before in
+    let at-enter = at-merge-members .before .before .before .before .before .before in
+    leaving (at-enter .enter .ensures .1) (at-merge-members .merge-members .ensures .1 .1)
 
 merge-value-same-length-3 : (t : ℕ) → merge-value-lts.Need-same-length-3 (merge-value-claims t) (merge-value-at t) merge-value.Post
-merge-value-same-length-3 t c = ap length (left (c .before .before .before .before .before .before .before .before .before .before .before .before .before .before .before .before .before .before .before .before .before .before .before .before .enter-old .ensures .1) (c .before .before .before .before .before .before .before .before .before .before .before .before .before .before .merge-members .ensures .1 .0) (cleared-object brace refl (c .before .before .before .before .before .before .clear .ensures)))
+merge-value-same-length-3 t c =
+    let at-clear = c .before .before .before .before .before .before in
+    let at-merge-members = at-clear .before .before .before .before .before .before .before .before in
+    let at-enter-old = at-merge-members .before .before .before .before .before .before .before .before .before .before in
+    ap length (left (at-enter-old .enter-old .ensures .1) (at-merge-members .merge-members .ensures .1 .0) (cleared-object brace refl (at-clear .clear .ensures)))
 
 merge-value-same-length-4 : (t : ℕ) → merge-value-lts.Need-same-length-4 (merge-value-claims t) (merge-value-at t) merge-value.Post
-merge-value-same-length-4 t c = ap length (left (c .before .before .before .before .before .before .before .before .before .before .before .before .before .before .before .before .before .before .before .before .enter .ensures .1) (c .before .before .before .before .before .before .before .before .before .before .before .before .before .before .merge-members .ensures .1 .1) (cleared-object brace refl (c .before .before .clear2 .ensures)))
+merge-value-same-length-4 t c =
+    let at-clear2 = c .before .before in
+    let at-merge-members = at-clear2 .before .before .before .before .before .before .before .before .before .before .before .before in
+    let at-enter = at-merge-members .before .before .before .before .before .before in
+    ap length (left (at-enter .enter .ensures .1) (at-merge-members .merge-members .ensures .1 .1) (cleared-object brace refl (at-clear2 .clear2 .ensures)))
 
 merge-value-same-length-5 : (t : ℕ) → merge-value-lts.Need-same-length-5 (merge-value-claims t) (merge-value-at t) merge-value.Post
-merge-value-same-length-5 t c = let (d, (e, x, f)) = c .before .before .before .before .before .before .before .before .before .before .before .before .before .before .before .before .before .before .before .before .before .before .before .before .before .before .before .before .before .before .before .before .before .before .pre .1 in emit-length (c .before .before .before .before .before .before .before .before .before .before .before .before .before .before .merge-members .ensures .0 e (opens-sides (c .before .before .before .before .before .before .before .before .before .before .before .before .before .before .before .before .before .before .before .before .before .before .before .before .enter-old .ensures .0) (c .before .before .before .before .before .before .before .before .before .before .before .before .before .before .before .before .before .before .before .before .enter .ensures .0) (object (c .before .before .before .before .before .before .before .before .before .before .before .before .before .before .before .before .before .before .before .before .before .before .before .before .before .before .before .is-object .ensures) (c .before .before .before .before .before .before .before .before .before .before .before .before .before .before .before .before .before .before .before .before .before .before .before .before .before .before .if1 .left) x))) (f .room)
+merge-value-same-length-5 t c =
+    let at-merge-members = c .before .before .before .before .before .before .before .before .before .before .before .before .before .before in
+    let at-enter = at-merge-members .before .before .before .before .before .before in
+    let at-enter-old = at-enter .before .before .before .before in
+    let at-if1 = at-enter-old .before .before in
+    let at-is-object = at-if1 .before in
+    let start = at-is-object .before .before .before .before .before .before .before in
+    let (d, (e, x, f)) = start .pre .1 in
+    emit-length (at-merge-members .merge-members .ensures .0 e (opens-sides (at-enter-old .enter-old .ensures .0) (at-enter .enter .ensures .0) (object (at-is-object .is-object .ensures) (at-if1 .if1 .left) x))) (f .room)
 
 merge-value-returns-2 : (t : ℕ) → merge-value-lts.Need-returns-2 (merge-value-claims t) (merge-value-at t) merge-value.Post
-merge-value-returns-2 t c = ((λ q s. c .before .before .before .before .before .before .before .before .before .before .before .before .before .before .merge-members .ensures .0 q (opens-sides (c .before .before .before .before .before .before .before .before .before .before .before .before .before .before .before .before .before .before .before .before .before .before .before .before .enter-old .ensures .0) (c .before .before .before .before .before .before .before .before .before .before .before .before .before .before .before .before .before .before .before .before .enter .ensures .0) (object (c .before .before .before .before .before .before .before .before .before .before .before .before .before .before .before .before .before .before .before .before .before .before .before .before .before .before .before .is-object .ensures) (c .before .before .before .before .before .before .before .before .before .before .before .before .before .before .before .before .before .before .before .before .before .before .before .before .before .before .if1 .left) s))), (left (c .before .before .before .before .before .before .before .before .before .before .before .before .before .before .before .before .before .before .before .before .before .before .before .before .enter-old .ensures .1) (c .before .before .before .before .before .before .before .before .before .before .before .before .before .before .merge-members .ensures .1 .0) (cleared-object brace refl (c .before .before .before .before .before .before .clear .ensures)), left (c .before .before .before .before .before .before .before .before .before .before .before .before .before .before .before .before .before .before .before .before .enter .ensures .1) (c .before .before .before .before .before .before .before .before .before .before .before .before .before .before .merge-members .ensures .1 .1) (cleared-object brace refl (c .before .before .clear2 .ensures))))
+merge-value-returns-2 t c =
+    let at-clear2 = c .before .before in
+    let at-clear = at-clear2 .before .before .before .before in
+    let at-merge-members = at-clear .before .before .before .before .before .before .before .before in
+    let at-enter = at-merge-members .before .before .before .before .before .before in
+    let at-enter-old = at-enter .before .before .before .before in
+    let at-if1 = at-enter-old .before .before in
+    let at-is-object = at-if1 .before in
+    ((λ q s. at-merge-members .merge-members .ensures .0 q (opens-sides (at-enter-old .enter-old .ensures .0) (at-enter .enter .ensures .0) (object (at-is-object .is-object .ensures) (at-if1 .if1 .left) s))), (left (at-enter-old .enter-old .ensures .1) (at-merge-members .merge-members .ensures .1 .0) (cleared-object brace refl (at-clear .clear .ensures)), left (at-enter .enter .ensures .1) (at-merge-members .merge-members .ensures .1 .1) (cleared-object brace refl (at-clear2 .clear2 .ensures))))
 
 pub +merge-member+merge-members+merge-value-spec : {M : Type 1} → statement M
 +merge-member+merge-members+merge-value-spec =

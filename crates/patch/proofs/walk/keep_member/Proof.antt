@@ -14,7 +14,7 @@ sub-emit-value : tie.Need-sub-emit-value
 sub-emit-value c = let s = c .before .before .before .before .before .before .before .before .before .before in let (v, x, f) = s .pre .3 in second-start _ _ f (c .before .before .before .before .emit-key .ensures) (c .before .rest-at .ensures)
 
 part-emit-value-start : tie.Need-part-emit-value-start
-part-emit-value-start c = let s = c .before .before .before .before .before .before .before .before .before .before in let (v, x, f) = s .pre .3 in second-start _ _ f (c .before .before .before .before .emit-key .ensures) (c .before .rest-at .ensures)
+part-emit-value-start c = sub-emit-value c
 
 part-emit-value-end : tie.Need-part-emit-value-end
 part-emit-value-end c = search needs
@@ -23,16 +23,37 @@ emit-value-requires : tie.Need-emit-value-requires
 emit-value-requires c κs = let s = c .before .before .before .before .before .before .before .before .before .before .before in let (v, x, f) = s .pre .3 in (s .pre .0, (v, x, second-fits _ _ f (c .before .before .before .before .before .emit-key .ensures) (c .before .before .rest-at .ensures)))
 
 add-result : tie.Need-add-result
-add-result c = let s = c .before .before .before .before .before .before .before .before .before .before .before .before .before .before .before .before in let (v, x, f) = s .pre .3 in omega (arith, f .few, (both-emit _ _ f (c .before .before .before .before .before .before .before .before .before .before .emit-key .ensures) (c .before .before .before .before .before .before .before .rest-at .ensures) (c .before .before .before .before .emit-value .ensures .0 v x)) .count)
+add-result c =
+    let at-emit-value = c .before .before .before .before in
+    let at-rest-at = at-emit-value .before .before .before in
+    let at-emit-key = at-rest-at .before .before .before in
+    let at-before = at-emit-key .before .before .before .before .before in
+    let s = at-before .before in
+    let (v, x, f) = s .pre .3 in
+    omega (arith, f .few, (both-emit _ _ f (at-emit-key .emit-key .ensures) (at-rest-at .rest-at .ensures) (at-emit-value .emit-value .ensures .0 v x)) .count)
 
 same-length : tie.Need-same-length
 same-length c = search needs
 
 same-length-2 : tie.Need-same-length-2
-same-length-2 c = let s = c .before .before .before .before .before .before .before .before .before .before .before .before .before .before .before .before in let (v, x, f) = s .pre .3 in emit-length (both-emit _ _ f (c .before .before .before .before .before .before .before .before .before .before .emit-key .ensures) (c .before .before .before .before .before .before .before .rest-at .ensures) (c .before .before .before .before .emit-value .ensures .0 v x)) (f .room)
+same-length-2 c =
+    let at-emit-value = c .before .before .before .before in
+    let at-rest-at = at-emit-value .before .before .before in
+    let at-emit-key = at-rest-at .before .before .before in
+    let at-before = at-emit-key .before .before .before .before .before in
+    let s = at-before .before in
+    let (v, x, f) = s .pre .3 in
+    emit-length (both-emit _ _ f (at-emit-key .emit-key .ensures) (at-rest-at .rest-at .ensures) (at-emit-value .emit-value .ensures .0 v x)) (f .room)
 
 returns : tie.Need-returns
-returns c = let s = c .before .before .before .before .before .before .before .before .before .before .before .before .before .before .before .before in let (v, x, f) = s .pre .3 in ((λ u y. both-emit _ _ f (c .before .before .before .before .before .before .before .before .before .before .emit-key .ensures) (c .before .before .before .before .before .before .before .rest-at .ensures) (c .before .before .before .before .emit-value .ensures .0 u y)), c .before .before .before .before .emit-value .ensures .1)
+returns c =
+    let at-emit-value = c .before .before .before .before in
+    let at-rest-at = at-emit-value .before .before .before in
+    let at-emit-key = at-rest-at .before .before .before in
+    let at-before = at-emit-key .before .before .before .before .before in
+    let s = at-before .before in
+    let (v, x, f) = s .pre .3 in
+    ((λ u y. both-emit _ _ f (at-emit-key .emit-key .ensures) (at-rest-at .rest-at .ensures) (at-emit-value .emit-value .ensures .0 u y)), at-emit-value .emit-value .ensures .1)
 
 pub keep-member-spec : {M : Type 1} → statement M
 keep-member-spec =

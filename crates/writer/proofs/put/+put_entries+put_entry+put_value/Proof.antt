@@ -104,7 +104,7 @@ put-entries-sub-put-entry : (t : ℕ) → put-entries-lts.Need-sub-put-entry (pu
 put-entries-sub-put-entry t c = let s = c .before .before .before .before .before .before .before in let (d, f, (x, r, l)) = s .pre .1 in next-start (c .before .before .loop .inv .1 x r) (c .before .loop-test .taken) (simp length-set l)
 
 put-entries-part-put-entry-start : (t : ℕ) → put-entries-lts.Need-part-put-entry-start (put-entries-claims t) (put-entries-at t) put-entries.Post put-entries-Inv-loop put-entries-μ-loop
-put-entries-part-put-entry-start t c = let s = c .before .before .before .before .before .before .before in let (d, f, (x, r, l)) = s .pre .1 in next-start (c .before .before .loop .inv .1 x r) (c .before .loop-test .taken) (simp length-set l)
+put-entries-part-put-entry-start t c = put-entries-sub-put-entry t c
 
 put-entries-part-put-entry-end : (t : ℕ) → put-entries-lts.Need-part-put-entry-end (put-entries-claims t) (put-entries-at t) put-entries.Post put-entries-Inv-loop put-entries-μ-loop
 put-entries-part-put-entry-end t c = search needs
@@ -152,7 +152,7 @@ put-entry-sub-put-value : (t : ℕ) → put-entry-lts.Need-sub-put-value (put-en
 put-entry-sub-put-value t c = let s = c .before .before .before .before .before .before .before .before .before in let (d, (e, x, l)) = s .pre .1 in lend-start (c .before .before .before .put-name .ensures) (name-fits (s .args .out .now) x l)
 
 put-entry-part-put-value-start : (t : ℕ) → put-entry-lts.Need-part-put-value-start (put-entry-claims t) (put-entry-at t) put-entry.Post
-put-entry-part-put-value-start t c = let s = c .before .before .before .before .before .before .before .before .before in let (d, (e, x, l)) = s .pre .1 in lend-start (c .before .before .before .put-name .ensures) (name-fits (s .args .out .now) x l)
+put-entry-part-put-value-start t c = put-entry-sub-put-value t c
 
 put-entry-part-put-value-end : (t : ℕ) → put-entry-lts.Need-part-put-value-end (put-entry-claims t) (put-entry-at t) put-entry.Post
 put-entry-part-put-value-end t c = search needs
