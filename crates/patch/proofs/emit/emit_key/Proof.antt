@@ -24,7 +24,7 @@ sub-put-name : tie.Need-sub-put-name
 sub-put-name c = let s = c .before .before .before .before in simp length-set (mark-room (s .args .text .now) (s .args .table .now) (s .args .r) (s .args .mark) (s .pre .0) (s .pre .1) (s .pre .2) (not-false _ (c .if1 .left)))
 
 part-put-name-start : tie.Need-part-put-name-start
-part-put-name-start c = let s = c .before .before .before .before in simp length-set (mark-room (s .args .text .now) (s .args .table .now) (s .args .r) (s .args .mark) (s .pre .0) (s .pre .1) (s .pre .2) (not-false _ (c .if1 .left)))
+part-put-name-start c = sub-put-name c
 
 part-put-name-end : tie.Need-part-put-name-end
 part-put-name-end c = search needs

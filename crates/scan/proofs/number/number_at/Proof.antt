@@ -17,7 +17,10 @@ behind-minus-requires c κs = search needs
 
 -- src/number.rt:134:9
 returns : tie.Need-returns
-returns c = number-short (c .before .before .before .before .args .text .now) (c .before .before .before .before .args .at) (c .before .before .before .before .pre .0) (c .before .before .before .before .pre .1) (c .before .behind-minus .ensures) (c .if1 .taken)
+returns c =
+    let at-behind-minus = c .before in
+    let start = at-behind-minus .before .before .before in
+    number-short (start .args .text .now) (start .args .at) (start .pre .0) (start .pre .1) (at-behind-minus .behind-minus .ensures) (c .if1 .taken)
 
 -- src/number.rt:136:13
 shared-slice-read-d : tie.Need-shared-slice-read-d
@@ -29,7 +32,11 @@ is-digit-requires c κs = search needs
 
 -- src/number.rt:138:9
 returns-2 : tie.Need-returns-2
-returns-2 c = number-off (c .before .before .before .before .before .before .before .args .text .now) (c .before .before .before .before .before .before .before .args .at) (c .before .before .before .before .before .before .before .pre .0) (c .before .before .before .before .before .before .before .pre .1) (c .before .before .before .before .behind-minus .ensures) (omega arith) (fails _ _ (c .before .is-digit .ensures) (not-true _ (c .if2 .taken)))
+returns-2 c =
+    let at-is-digit = c .before in
+    let at-behind-minus = at-is-digit .before .before .before in
+    let start = at-behind-minus .before .before .before in
+    number-off (start .args .text .now) (start .args .at) (start .pre .0) (start .pre .1) (at-behind-minus .behind-minus .ensures) (omega arith) (fails _ _ (at-is-digit .is-digit .ensures) (not-true _ (c .if2 .taken)))
 
 -- src/number.rt:140:23
 add-mantissa-at : tie.Need-add-mantissa-at
@@ -41,7 +48,12 @@ mantissa-at-requires c κs = (omega arith, sym (c .before .is-digit .ensures) �
 
 -- src/number.rt:127:1
 returns-3 : tie.Need-returns-3
-returns-3 c = number-rest (c .before .before .before .before .before .before .before .before .args .text .now) (c .before .before .before .before .before .before .before .before .args .at) (c .before .before .before .before .before .before .before .before .pre .0) (c .before .before .before .before .before .before .before .before .pre .1) (c .mantissa-at .result) (c .before .before .before .before .before .behind-minus .ensures) (omega arith) (holds _ _ (c .before .before .is-digit .ensures) (not-false _ (c .before .if2 .left))) (c .mantissa-at .ensures)
+returns-3 c =
+    let at-if2 = c .before in
+    let at-is-digit = at-if2 .before in
+    let at-behind-minus = at-is-digit .before .before .before in
+    let start = at-behind-minus .before .before .before in
+    number-rest (start .args .text .now) (start .args .at) (start .pre .0) (start .pre .1) (c .mantissa-at .result) (at-behind-minus .behind-minus .ensures) (omega arith) (holds _ _ (at-is-digit .is-digit .ensures) (not-false _ (at-if2 .if2 .left))) (c .mantissa-at .ensures)
 
 pub number-at-spec : {M : Type 1} → statement M
 number-at-spec =

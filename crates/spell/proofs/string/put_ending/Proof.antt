@@ -63,7 +63,7 @@ sub-put-unit : tie.Need-sub-put-unit Inv-loop μ-loop
 sub-put-unit c = upto-start (upto-lend (c .before .before .before .before .before .before .before .before .loop .inv .1) (c .before .before .before .before .before .before .before .bare-run .ensures .part) (c .before .before .before .before .put-word .ensures))
 
 part-put-unit-start : tie.Need-part-put-unit-start Inv-loop μ-loop
-part-put-unit-start c = upto-start (upto-lend (c .before .before .before .before .before .before .before .before .loop .inv .1) (c .before .before .before .before .before .before .before .bare-run .ensures .part) (c .before .before .before .before .put-word .ensures))
+part-put-unit-start c = sub-put-unit c
 
 part-put-unit-end : tie.Need-part-put-unit-end Inv-loop μ-loop
 part-put-unit-end c = search needs

@@ -60,7 +60,7 @@ sub-put-ending : tie.Need-sub-put-ending
 sub-put-ending c = let s = c .before .before .before .before .before .before .before .before .before in upto-start (opened (s .args .text .now) (s .args .q) (s .args .out .now) (s .pre .1) (c .before .before .before .before .put-plain .ensures))
 
 part-put-ending-start : tie.Need-part-put-ending-start
-part-put-ending-start c = let s = c .before .before .before .before .before .before .before .before .before in upto-start (opened (s .args .text .now) (s .args .q) (s .args .out .now) (s .pre .1) (c .before .before .before .before .put-plain .ensures))
+part-put-ending-start c = sub-put-ending c
 
 part-put-ending-end : tie.Need-part-put-ending-end
 part-put-ending-end c = search needs

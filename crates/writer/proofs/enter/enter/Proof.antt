@@ -12,13 +12,22 @@ add-order : tie.Need-add-order
 add-order c = let l = writes-room (c .before .before .before .before .before .before .pre .1 .2) .1 in omega arith
 
 order-requires : tie.Need-order-requires
-order-requires c κs = entering-row (c .before .before .before .before .before .before .pre .1 .2) (c .before .before .before .before .before .before .pre .0) _ (c .before .before .next .ensures) (c .before .if1 .taken)
+order-requires c κs =
+    let at-if1 = c .before in
+    let at-next = at-if1 .before in
+    let start = at-next .before .before .before .before in
+    entering-row (start .pre .1 .2) (start .pre .0) _ (at-next .next .ensures) (at-if1 .if1 .taken)
 
 same-length : tie.Need-same-length
 same-length c = search needs
 
 returns : tie.Need-returns
-returns c = ((λ d x z. object-ready z (c .before .before .before .before .before .before .before .before .before .pre .0) _ (c .before .before .before .before .before .next .ensures) _ (c .before .before .order .ensures .0) _ _ (c .before .before .before .before .if1 .taken) (c .before .before .order .ensures .1)), object-kept (c .before .before .before .before .before .before .before .before .before .pre .1 .2) (c .before .before .before .before .before .before .before .before .before .pre .0) _ (c .before .before .before .before .before .next .ensures) _ (c .before .before .order .ensures .0) _ _ (c .before .before .before .before .if1 .taken) (c .before .before .order .ensures .1))
+returns c =
+    let at-order = c .before .before in
+    let at-if1 = at-order .before .before in
+    let at-next = at-if1 .before in
+    let start = at-next .before .before .before .before in
+    ((λ d x z. object-ready z (start .pre .0) _ (at-next .next .ensures) _ (at-order .order .ensures .0) _ _ (at-if1 .if1 .taken) (at-order .order .ensures .1)), object-kept (start .pre .1 .2) (start .pre .0) _ (at-next .next .ensures) _ (at-order .order .ensures .0) _ _ (at-if1 .if1 .taken) (at-order .order .ensures .1))
 
 add-t12 : tie.Need-add-t12
 add-t12 c = let l = writes-room (c .before .before .before .before .before .pre .1 .2) .1 in omega arith
@@ -33,7 +42,11 @@ same-length-2 : tie.Need-same-length-2
 same-length-2 c = search needs
 
 returns-2 : tie.Need-returns-2
-returns-2 c = ((λ d x z. array-ready z (c .before .before .before .before .before .before .before .pre .0) _ (c .before .before .before .next .ensures) _ (c .count .ensures) (c .before .before .if1 .left)), array-kept (c .before .before .before .before .before .before .before .pre .1 .2) (c .before .before .before .before .before .before .before .pre .0) _ (c .before .before .before .next .ensures) _ (c .count .ensures) (c .before .before .if1 .left))
+returns-2 c =
+    let at-if1 = c .before .before in
+    let at-next = at-if1 .before in
+    let start = at-next .before .before .before .before in
+    ((λ d x z. array-ready z (start .pre .0) _ (at-next .next .ensures) _ (c .count .ensures) (at-if1 .if1 .left)), array-kept (start .pre .1 .2) (start .pre .0) _ (at-next .next .ensures) _ (c .count .ensures) (at-if1 .if1 .left))
 
 pub enter-spec : {M : Type 1} → statement M
 enter-spec =

@@ -110,7 +110,13 @@ put-entries-part-put-entry-end : (t : ℕ) → put-entries-lts.Need-part-put-ent
 put-entries-part-put-entry-end t c = search needs
 
 put-entries-put-entry-requires : (t : ℕ) → put-entries-lts.Need-put-entry-requires (put-entries-claims t) (put-entries-at t) put-entries.Post put-entries-Inv-loop put-entries-μ-loop
-put-entries-put-entry-requires t c κs = let s = c .before .before .before .before .before .before .before .before in let (d, f, (x, r, l)) = s .pre .1 in (omega (arith, s .pre .0), (d, (entry (c .before .before .before .loop .inv .1 x r), next-entry (c .before .before .before .loop .inv .1 x r) (c .before .before .loop-test .taken) (c .before .before .before .loop .inv .0), next-fits (c .before .before .before .loop .inv .1 x r) (c .before .before .loop-test .taken) (simp length-set l))))
+put-entries-put-entry-requires t c κs =
+    let at-loop-test = c .before .before in
+    let at-loop = at-loop-test .before in
+    let at-before = at-loop .before .before .before .before in
+    let s = at-before .before in
+    let (d, f, (x, r, l)) = s .pre .1 in
+    (omega (arith, s .pre .0), (d, (entry (at-loop .loop .inv .1 x r), next-entry (at-loop .loop .inv .1 x r) (at-loop-test .loop-test .taken) (at-loop .loop .inv .0), next-fits (at-loop .loop .inv .1 x r) (at-loop-test .loop-test .taken) (simp length-set l))))
 
 put-entries-add-at : (t : ℕ) → put-entries-lts.Need-add-at (put-entries-claims t) (put-entries-at t) put-entries.Post put-entries-Inv-loop put-entries-μ-loop
 put-entries-add-at t c = let s = c .before .before .before .before .before .before .before .before .before .before .before .before .before in let (d, f, (x, r, l)) = s .pre .1 in omega (arith, added (s .args .out .now) (c .before .before .before .before .before .before .before .before .loop .inv .1 x r) (c .before .before .before .before .before .before .before .loop-test .taken) l (c .before .before .before .before .put-entry .ensures .0 _ (next-entry (c .before .before .before .before .before .before .before .before .loop .inv .1 x r) (c .before .before .before .before .before .before .before .loop-test .taken) (c .before .before .before .before .before .before .before .before .loop .inv .0))))
@@ -122,19 +128,41 @@ put-entries-mark-behind-requires : (t : ℕ) → put-entries-lts.Need-mark-behin
 put-entries-mark-behind-requires t c κs = c .before .before .before .before .before .before .before .before .before .before .before .before .before .pre .1 .1
 
 put-entries-slice-write-out-2 : (t : ℕ) → put-entries-lts.Need-slice-write-out-2 (put-entries-claims t) (put-entries-at t) put-entries.Post put-entries-Inv-loop put-entries-μ-loop
-put-entries-slice-write-out-2 t c = let s = c .before .before .before .before .before .before .before .before .before .before .before .before .before .before in let (d, f, (x, r, l)) = s .pre .1 in wrote-room (c .before .before .before .before .before .before .before .before .before .loop .inv .1 x r) (c .before .before .before .before .before .before .before .before .loop-test .taken) (c .before .before .before .before .before .put-entry .ensures .0 _ (next-entry (c .before .before .before .before .before .before .before .before .before .loop .inv .1 x r) (c .before .before .before .before .before .before .before .before .loop-test .taken) (c .before .before .before .before .before .before .before .before .before .loop .inv .0))) (omega (arith, next-long (c .before .before .before .before .before .before .before .before .before .loop .inv .1 x r) (c .before .before .before .before .before .before .before .before .loop-test .taken) (simp length-set l), (c .before .before .before .before .before .put-entry .ensures .0 _ (next-entry (c .before .before .before .before .before .before .before .before .before .loop .inv .1 x r) (c .before .before .before .before .before .before .before .before .loop-test .taken) (c .before .before .before .before .before .before .before .before .before .loop .inv .0))) .count))
+put-entries-slice-write-out-2 t c =
+    let at-put-entry = c .before .before .before .before .before in
+    let at-loop-test = at-put-entry .before .before .before in
+    let at-loop = at-loop-test .before in
+    let at-before = at-loop .before .before .before .before in
+    let s = at-before .before in
+    let (d, f, (x, r, l)) = s .pre .1 in
+    wrote-room (at-loop .loop .inv .1 x r) (at-loop-test .loop-test .taken) (at-put-entry .put-entry .ensures .0 _ (next-entry (at-loop .loop .inv .1 x r) (at-loop-test .loop-test .taken) (at-loop .loop .inv .0))) (omega (arith, next-long (at-loop .loop .inv .1 x r) (at-loop-test .loop-test .taken) (simp length-set l), (at-put-entry .put-entry .ensures .0 _ (next-entry (at-loop .loop .inv .1 x r) (at-loop-test .loop-test .taken) (at-loop .loop .inv .0))) .count))
 
 put-entries-add-at-2 : (t : ℕ) → put-entries-lts.Need-add-at-2 (put-entries-claims t) (put-entries-at t) put-entries.Post put-entries-Inv-loop put-entries-μ-loop
 put-entries-add-at-2 t c = let s = c .before .before .before .before .before .before .before .before .before .before .before .before .before .before in let (d, f, (x, r, l)) = s .pre .1 in omega (arith, added (s .args .out .now) (c .before .before .before .before .before .before .before .before .before .loop .inv .1 x r) (c .before .before .before .before .before .before .before .before .loop-test .taken) l (c .before .before .before .before .before .put-entry .ensures .0 _ (next-entry (c .before .before .before .before .before .before .before .before .before .loop .inv .1 x r) (c .before .before .before .before .before .before .before .before .loop-test .taken) (c .before .before .before .before .before .before .before .before .before .loop .inv .0))))
 
 put-entries-follow-requires : (t : ℕ) → put-entries-lts.Need-follow-requires (put-entries-claims t) (put-entries-at t) put-entries.Post put-entries-Inv-loop put-entries-μ-loop
-put-entries-follow-requires t c κs = let s = c .before .before .before .before .before .before .before .before .before .before .before .before .before .before .before in let (d, f, (x, r, l)) = s .pre .1 in entry-room (next-entry (c .before .before .before .before .before .before .before .before .before .before .loop .inv .1 x r) (c .before .before .before .before .before .before .before .before .before .loop-test .taken) (c .before .before .before .before .before .before .put-entry .ensures .1 ∙ c .before .before .before .before .before .before .before .before .before .before .loop .inv .0))
+put-entries-follow-requires t c κs =
+    let at-put-entry = c .before .before .before .before .before .before in
+    let at-loop-test = at-put-entry .before .before .before in
+    let at-loop = at-loop-test .before in
+    let at-before = at-loop .before .before .before .before in
+    let s = at-before .before in
+    let (d, f, (x, r, l)) = s .pre .1 in
+    entry-room (next-entry (at-loop .loop .inv .1 x r) (at-loop-test .loop-test .taken) (at-put-entry .put-entry .ensures .1 ∙ at-loop .loop .inv .0))
 
 put-entries-loop-less : (t : ℕ) → put-entries-lts.Need-loop-less (put-entries-claims t) (put-entries-at t) put-entries.Post put-entries-Inv-loop put-entries-μ-loop
 put-entries-loop-less t c = search needs
 
 put-entries-loop-again : (t : ℕ) → put-entries-lts.Need-loop-again (put-entries-claims t) (put-entries-at t) put-entries.Post put-entries-Inv-loop put-entries-μ-loop
-put-entries-loop-again t c = let s = c .before .before .before .before .before .before .before .before .before .before .before .before .before .before .before .before in let (d, f, (x, r, l)) = s .pre .1 in ((c .before .before .before .before .before .before .before .put-entry .ensures .1 ∙ c .before .before .before .before .before .before .before .before .before .before .before .loop .inv .0), λ y z. going-turn (c .before .before .before .before .before .before .before .before .before .before .before .loop .inv .1 y z) (c .before .before .before .before .before .before .before .before .before .before .loop-test .taken) (c .before .before .before .before .before .before .before .put-entry .ensures .0 _ (next-entry (c .before .before .before .before .before .before .before .before .before .before .before .loop .inv .1 y z) (c .before .before .before .before .before .before .before .before .before .before .loop-test .taken) (c .before .before .before .before .before .before .before .before .before .before .before .loop .inv .0))) (omega (arith, next-long (c .before .before .before .before .before .before .before .before .before .before .before .loop .inv .1 x r) (c .before .before .before .before .before .before .before .before .before .before .loop-test .taken) (simp length-set l), (c .before .before .before .before .before .before .before .put-entry .ensures .0 _ (next-entry (c .before .before .before .before .before .before .before .before .before .before .before .loop .inv .1 x r) (c .before .before .before .before .before .before .before .before .before .before .loop-test .taken) (c .before .before .before .before .before .before .before .before .before .before .before .loop .inv .0))) .count)) (c .before .before .before .before .before .before .before .put-entry .ensures .1 ∙ c .before .before .before .before .before .before .before .before .before .before .before .loop .inv .0) (c .before .before .mark-behind .ensures) (c .follow .ensures))
+put-entries-loop-again t c =
+    let at-mark-behind = c .before .before in
+    let at-put-entry = at-mark-behind .before .before .before .before .before in
+    let at-loop-test = at-put-entry .before .before .before in
+    let at-loop = at-loop-test .before in
+    let at-before = at-loop .before .before .before .before in
+    let s = at-before .before in
+    let (d, f, (x, r, l)) = s .pre .1 in
+    ((at-put-entry .put-entry .ensures .1 ∙ at-loop .loop .inv .0), λ y z. going-turn (at-loop .loop .inv .1 y z) (at-loop-test .loop-test .taken) (at-put-entry .put-entry .ensures .0 _ (next-entry (at-loop .loop .inv .1 y z) (at-loop-test .loop-test .taken) (at-loop .loop .inv .0))) (omega (arith, next-long (at-loop .loop .inv .1 x r) (at-loop-test .loop-test .taken) (simp length-set l), (at-put-entry .put-entry .ensures .0 _ (next-entry (at-loop .loop .inv .1 x r) (at-loop-test .loop-test .taken) (at-loop .loop .inv .0))) .count)) (at-put-entry .put-entry .ensures .1 ∙ at-loop .loop .inv .0) (at-mark-behind .mark-behind .ensures) (c .follow .ensures))
 
 put-entries-same-length-2 : (t : ℕ) → put-entries-lts.Need-same-length-2 (put-entries-claims t) (put-entries-at t) put-entries.Post put-entries-Inv-loop put-entries-μ-loop
 put-entries-same-length-2 t c = ap length (c .before .loop .inv .0)
@@ -161,16 +189,34 @@ put-entry-put-value-requires : (t : ℕ) → put-entry-lts.Need-put-value-requir
 put-entry-put-value-requires t c κs = let s = c .before .before .before .before .before .before .before .before .before .before in let (d, (e, x, l)) = s .pre .1 in (omega (arith, s .pre .0), (d, value-fits (c .before .before .before .before .put-name .ensures) (name-fits (s .args .out .now) x l) x l))
 
 put-entry-add-result : (t : ℕ) → put-entry-lts.Need-add-result (put-entry-claims t) (put-entry-at t) put-entry.Post
-put-entry-add-result t c = let s = c .before .before .before .before .before .before .before .before .before .before .before .before .before .before .before in let (d, (e, x, l)) = s .pre .1 in omega (arith, l, (entry-puts (c .before .before .before .before .before .before .before .before .before .put-name .ensures) (name-fits (s .args .out .now) x l) (c .before .before .before .before .put-value .ensures .0) x) .count)
+put-entry-add-result t c =
+    let at-put-value = c .before .before .before .before in
+    let at-put-name = at-put-value .before .before .before .before .before in
+    let at-before = at-put-name .before .before .before .before .before in
+    let s = at-before .before in
+    let (d, (e, x, l)) = s .pre .1 in
+    omega (arith, l, (entry-puts (at-put-name .put-name .ensures) (name-fits (s .args .out .now) x l) (at-put-value .put-value .ensures .0) x) .count)
 
 put-entry-same-length : (t : ℕ) → put-entry-lts.Need-same-length (put-entry-claims t) (put-entry-at t) put-entry.Post
 put-entry-same-length t c = ap length (c .before .before .before .before .put-value .ensures .1)
 
 put-entry-same-length-2 : (t : ℕ) → put-entry-lts.Need-same-length-2 (put-entry-claims t) (put-entry-at t) put-entry.Post
-put-entry-same-length-2 t c = let s = c .before .before .before .before .before .before .before .before .before .before .before .before .before .before .before in let (d, (e, x, l)) = s .pre .1 in put-length (entry-puts (c .before .before .before .before .before .before .before .before .before .put-name .ensures) (name-fits (s .args .out .now) x l) (c .before .before .before .before .put-value .ensures .0) x) l
+put-entry-same-length-2 t c =
+    let at-put-value = c .before .before .before .before in
+    let at-put-name = at-put-value .before .before .before .before .before in
+    let at-before = at-put-name .before .before .before .before .before in
+    let s = at-before .before in
+    let (d, (e, x, l)) = s .pre .1 in
+    put-length (entry-puts (at-put-name .put-name .ensures) (name-fits (s .args .out .now) x l) (at-put-value .put-value .ensures .0) x) l
 
 put-entry-returns : (t : ℕ) → put-entry-lts.Need-returns (put-entry-claims t) (put-entry-at t) put-entry.Post
-put-entry-returns t c = let s = c .before .before .before .before .before .before .before .before .before .before .before .before .before .before .before in let (d, (e, x, l)) = s .pre .1 in ((λ e y. entry-puts (c .before .before .before .before .before .before .before .before .before .put-name .ensures) (name-fits (s .args .out .now) x l) (c .before .before .before .before .put-value .ensures .0) y), c .before .before .before .before .put-value .ensures .1)
+put-entry-returns t c =
+    let at-put-value = c .before .before .before .before in
+    let at-put-name = at-put-value .before .before .before .before .before in
+    let at-before = at-put-name .before .before .before .before .before in
+    let s = at-before .before in
+    let (d, (e, x, l)) = s .pre .1 in
+    ((λ e y. entry-puts (at-put-name .put-name .ensures) (name-fits (s .args .out .now) x l) (at-put-value .put-value .ensures .0) y), at-put-value .put-value .ensures .1)
 
 put-value-start-requires : (t : ℕ) → put-value-lts.Need-start-requires (put-value-claims t) (put-value-at t) put-value.Post
 put-value-start-requires t c κs = let s = c .before .before .before .before in let (d, (x, y, l)) = s .pre .1 in writes-room y .0
@@ -185,16 +231,39 @@ put-value-behind-requires : (t : ℕ) → put-value-lts.Need-behind-requires (pu
 put-value-behind-requires t c κs = let s = c .before .before .before .before .before .before .before .before .before in let (d, (x, y, l)) = s .pre .1 in writes-room y .0
 
 put-value-put-scalar-requires : (t : ℕ) → put-value-lts.Need-put-scalar-requires (put-value-claims t) (put-value-at t) put-value.Post
-put-value-put-scalar-requires t c κs = let s = c .before .before .before .before .before .before .before .before .before .before .before in let (d, (x, y, l)) = s .pre .1 in scalar-fits y (c .before .before .before .before .before .before .start .ensures) (c .before .behind .ensures) (c .before .before .before .if1 .taken) (c .before .before .before .before .is-open .ensures) (s .args .out .now) l
+put-value-put-scalar-requires t c κs =
+    let at-behind = c .before in
+    let at-if1 = at-behind .before .before in
+    let at-is-open = at-if1 .before in
+    let at-start = at-is-open .before .before in
+    let at-before = at-start .before .before .before .before in
+    let s = at-before .before in
+    let (d, (x, y, l)) = s .pre .1 in
+    scalar-fits y (at-start .start .ensures) (at-behind .behind .ensures) (at-if1 .if1 .taken) (at-is-open .is-open .ensures) (s .args .out .now) l
 
 put-value-same-length : (t : ℕ) → put-value-lts.Need-same-length (put-value-claims t) (put-value-at t) put-value.Post
 put-value-same-length t c = refl
 
 put-value-same-length-2 : (t : ℕ) → put-value-lts.Need-same-length-2 (put-value-claims t) (put-value-at t) put-value.Post
-put-value-same-length-2 t c = let s = c .before .before .before .before .before .before .before .before .before .before .before .before .before .before in let (d, (x, y, l)) = s .pre .1 in put-length (scalar-puts y (c .before .before .before .before .before .before .before .before .before .start .ensures) (c .before .before .before .before .behind .ensures) (c .before .before .before .before .before .before .if1 .taken) (c .before .before .before .before .before .before .before .is-open .ensures) (c .before .before .put-scalar .ensures)) l
+put-value-same-length-2 t c =
+    let at-put-scalar = c .before .before in
+    let at-behind = at-put-scalar .before .before in
+    let at-if1 = at-behind .before .before in
+    let at-is-open = at-if1 .before in
+    let at-start = at-is-open .before .before in
+    let at-before = at-start .before .before .before .before in
+    let s = at-before .before in
+    let (d, (x, y, l)) = s .pre .1 in
+    put-length (scalar-puts y (at-start .start .ensures) (at-behind .behind .ensures) (at-if1 .if1 .taken) (at-is-open .is-open .ensures) (at-put-scalar .put-scalar .ensures)) l
 
 put-value-returns : (t : ℕ) → put-value-lts.Need-returns (put-value-claims t) (put-value-at t) put-value.Post
-put-value-returns t c = ((λ x y. scalar-puts y (c .before .before .before .before .before .before .before .before .before .start .ensures) (c .before .before .before .before .behind .ensures) (c .before .before .before .before .before .before .if1 .taken) (c .before .before .before .before .before .before .before .is-open .ensures) (c .before .before .put-scalar .ensures)), refl)
+put-value-returns t c =
+    let at-put-scalar = c .before .before in
+    let at-behind = at-put-scalar .before .before in
+    let at-if1 = at-behind .before .before in
+    let at-is-open = at-if1 .before in
+    let at-start = at-is-open .before .before in
+    ((λ x y. scalar-puts y (at-start .start .ensures) (at-behind .behind .ensures) (at-if1 .if1 .taken) (at-is-open .is-open .ensures) (at-put-scalar .put-scalar .ensures)), refl)
 
 put-value-enter-requires : (t : ℕ) → put-value-lts.Need-enter-requires (put-value-claims t) (put-value-at t) put-value.Post
 put-value-enter-requires t c κs = let s = c .before .before .before .before .before .before .before .before .before in let (d, (x, y, l)) = s .pre .1 in ((opened-at (c .before .before .before .before .start .ensures) (c .before .if1 .left) (c .before .before .is-open .ensures)), (_, x, y))
@@ -203,7 +272,17 @@ put-value-add-put-entries : (t : ℕ) → put-value-lts.Need-add-put-entries (pu
 put-value-add-put-entries t c = let s = c .before .before .before .before .before .before .before .before .before .before .before .before .before in let (d, (x, y, l)) = s .pre .1 in omega arith
 
 put-value-put-entries-requires : (t : ℕ) → put-value-lts.Need-put-entries-requires (put-value-claims t) (put-value-at t) put-value.Post
-put-value-put-entries-requires t c κs = let s = c .before .before .before .before .before .before .before .before .before .before .before .before .before .before in let (d, (x, y, l)) = s .pre .1 in let o = (opened-at (c .before .before .before .before .before .before .before .before .before .start .ensures) (c .before .before .before .before .before .before .if1 .left) (c .before .before .before .before .before .before .before .is-open .ensures)) in let n = opened-depth y o in (omega (arith, s .pre .0), (omega arith, opened-small o, (x, c .before .before .before .before .enter .ensures .0 _ x y, l)))
+put-value-put-entries-requires t c κs =
+    let at-enter = c .before .before .before .before in
+    let at-if1 = at-enter .before .before in
+    let at-is-open = at-if1 .before in
+    let at-start = at-is-open .before .before in
+    let at-before = at-start .before .before .before .before in
+    let s = at-before .before in
+    let (d, (x, y, l)) = s .pre .1 in
+    let o = (opened-at (at-start .start .ensures) (at-if1 .if1 .left) (at-is-open .is-open .ensures)) in
+    let n = opened-depth y o in
+    (omega (arith, s .pre .0), (omega arith, opened-small o, (x, at-enter .enter .ensures .0 _ x y, l)))
 
 put-value-add-leave : (t : ℕ) → put-value-lts.Need-add-leave (put-value-claims t) (put-value-at t) put-value.Post
 put-value-add-leave t c = let s = c .before .before .before .before .before .before .before .before .before .before .before .before .before .before .before .before .before .before .before .before in let (d, (x, y, l)) = s .pre .1 in let n = writes-room y .1 in omega arith
@@ -212,13 +291,27 @@ put-value-leave-requires : (t : ℕ) → put-value-lts.Need-leave-requires (put-
 put-value-leave-requires t c κs = leaving (c .before .before .before .before .before .before .before .before .before .before .enter .ensures .1) (c .before .before .before .before .before .put-entries .ensures .1)
 
 put-value-same-length-3 : (t : ℕ) → put-value-lts.Need-same-length-3 (put-value-claims t) (put-value-at t) put-value.Post
-put-value-same-length-3 t c = ap length (left (c .before .before .before .before .before .before .before .before .before .before .before .before .before .enter .ensures .1) (c .before .before .before .before .before .before .before .before .put-entries .ensures .1) (c .before .before .leave .ensures))
+put-value-same-length-3 t c =
+    let at-leave = c .before .before in
+    let at-put-entries = at-leave .before .before .before .before .before .before in
+    let at-enter = at-put-entries .before .before .before .before .before in
+    ap length (left (at-enter .enter .ensures .1) (at-put-entries .put-entries .ensures .1) (at-leave .leave .ensures))
 
 put-value-same-length-4 : (t : ℕ) → put-value-lts.Need-same-length-4 (put-value-claims t) (put-value-at t) put-value.Post
-put-value-same-length-4 t c = let s = c .before .before .before .before .before .before .before .before .before .before .before .before .before .before .before .before .before .before .before .before .before .before .before in let (d, (x, y, l)) = s .pre .1 in put-length (c .before .before .before .before .before .before .before .before .put-entries .ensures .0 x (c .before .before .before .before .before .before .before .before .before .before .before .before .before .enter .ensures .0 _ x y)) l
+put-value-same-length-4 t c =
+    let at-put-entries = c .before .before .before .before .before .before .before .before in
+    let at-enter = at-put-entries .before .before .before .before .before in
+    let at-before = at-enter .before .before .before .before .before .before .before .before .before in
+    let s = at-before .before in
+    let (d, (x, y, l)) = s .pre .1 in
+    put-length (at-put-entries .put-entries .ensures .0 x (at-enter .enter .ensures .0 _ x y)) l
 
 put-value-returns-2 : (t : ℕ) → put-value-lts.Need-returns-2 (put-value-claims t) (put-value-at t) put-value.Post
-put-value-returns-2 t c = ((λ x y. c .before .before .before .before .before .before .before .before .put-entries .ensures .0 x (c .before .before .before .before .before .before .before .before .before .before .before .before .before .enter .ensures .0 _ x y)), left (c .before .before .before .before .before .before .before .before .before .before .before .before .before .enter .ensures .1) (c .before .before .before .before .before .before .before .before .put-entries .ensures .1) (c .before .before .leave .ensures))
+put-value-returns-2 t c =
+    let at-leave = c .before .before in
+    let at-put-entries = at-leave .before .before .before .before .before .before in
+    let at-enter = at-put-entries .before .before .before .before .before in
+    ((λ x y. at-put-entries .put-entries .ensures .0 x (at-enter .enter .ensures .0 _ x y)), left (at-enter .enter .ensures .1) (at-put-entries .put-entries .ensures .1) (at-leave .leave .ensures))
 
 pub +put-entries+put-entry+put-value-spec : {M : Type 1} → statement M
 +put-entries+put-entry+put-value-spec =
