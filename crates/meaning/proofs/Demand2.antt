@@ -2,25 +2,23 @@
 use Prim.Native.Nat.{_*_, _+_, _≤_, max, ℕ}
 use Rattle.meaning.proofs.Depth.{depth, depth-merge, keeps-depth}
 use Rattle.meaning.proofs.Keeps.{Keeps}
-use Rattle.meaning.proofs.Length.{put-length, text-length, width, widthAll, widthPairs}
+use Rattle.meaning.proofs.Length.{put-length, text-length}
 use Rattle.meaning.proofs.MergeLength.{merge-weigh}
 use Rattle.meaning.proofs.Merging.{keeps-merge, merge-again, merge-means, merge-same, mergeMeaning}
-use Rattle.meaning.proofs.Order.{before}
 use Rattle.meaning.proofs.Reading.{text-keeps}
 use Rattle.meaning.proofs.RoundTrip.{put-text}
 use Rattle.meaning.proofs.SideBySide.{merged-some, side-by-side}
-use Rattle.meaning.proofs.Sorting.{canon, canonAll, canonPairs, insert, keeps-canon, mean-canon, sorted-canon, sorted-one}
-use Rattle.meaning.proofs.Weight.{put-weigh}
+use Rattle.meaning.proofs.Sorting.{canon, keeps-canon, mean-canon, sorted-canon, sorted-one}
+use Rattle.meaning.proofs.Weight.{canon-weigh, put-weigh}
 use Rattle.meaning.specs.Canonical.{Canonical, put}
-use Rattle.meaning.specs.Meaning.{Meaning, Pairs, Tree, Trees, mean, meaning, tree}
+use Rattle.meaning.specs.Meaning.{Meaning, Tree, mean, meaning, tree}
 use Rattle.meaning.specs.Merge.{merge}
 use Rattle.text.proofs.Demand3.{one-meaning}
-use Rattle.text.specs.Bytes.{Bytes, Units}
+use Rattle.text.specs.Bytes.{Bytes}
 use Rattle.text.specs.Ceilings.{house, maxDepth}
 use Rattle.text.specs.Grammar.{Text}
 use Rattle.text.specs.Node.{Node}
 use lib.ListN.{length}
-use mathlib.Core.Bool.{Bool, false, true}
 use mathlib.Core.List.{[]}
 use mathlib.Core.Logic.{_↔_}
 use mathlib.Core.Path.{_∙_, _≡_, ap, refl, subst, subst⁻¹, sym}
@@ -61,39 +59,11 @@ demand-2 {c = c} {d = d} {v = v} {w = w} x y p q = (
   (λ e. canonical-one (subst (λ m. Canonical m c) e p) q),
 )
 
--- Sorting keeps the room that a tree needs, so a canonical text is at most six times as long as its source.
-insert-width : (k : Units) (t : Tree) (ps : Pairs) → widthPairs (insert k t ps) ≡ widthPairs (Pairs.pair k t ps)
-unfolding insert width
-insert-width k t Pairs.empty = refl
-insert-width k t (Pairs.pair j s ps) = by (before k j) (insert-width k t ps)
-  where
-    by : (b : Bool) → widthPairs (insert k t ps) ≡ widthPairs (Pairs.pair k t ps)
-        → widthPairs (elim b as (λ _. Pairs) [ true ↦ Pairs.pair k t (Pairs.pair j s ps) | false ↦ Pairs.pair j s (insert k t ps) ]) ≡ widthPairs (Pairs.pair k t (Pairs.pair j s ps))
-    by true h = refl
-    by false h = omega arith
-
-mutual
-  unfolding canon width
-
-  canon-width : (t : Tree) → width (canon t) ≡ width t
-  canon-width (Tree.literal w) = refl
-  canon-width (Tree.string us) = refl
-  canon-width (Tree.number x) = refl
-  canon-width (Tree.array ts) = ap (λ n. 2 + n) (canonAll-width ts)
-  canon-width (Tree.object ps) = ap (λ n. 2 + n) (canonPairs-width ps)
-
-  canonAll-width : (ts : Trees) → widthAll (canonAll ts) ≡ widthAll ts
-  canonAll-width Trees.nil = refl
-  canonAll-width (Trees.cons t ts) = omega (arith, canon-width t, canonAll-width ts)
-
-  canonPairs-width : (ps : Pairs) → widthPairs (canonPairs ps) ≡ widthPairs ps
-  canonPairs-width Pairs.empty = refl
-  canonPairs-width (Pairs.pair k t ps) = omega (arith, insert-width k (canon t) (canonPairs ps), canon-width t, canonPairs-width ps)
-
+-- A canonical text is at most six times as long as its source.
 pub six-times : {t c : Bytes} {v : Node} → Text house t v → Canonical (meaning v) c → length c ≤ 6 * length t
 six-times {c = c} {v = v} x y =
     let e : length (put (canon (tree v)) []) ≡ length c = ap (λ z. length z) (canonical-one (canonical-of (text-keeps x)) y) in
-    omega (arith, e, put-length (canon (tree v)) [], canon-width (tree v), text-length x)
+    omega (arith, e, canon-weigh (tree v), put-weigh (tree v) [], put-length (tree v) [], text-length x)
 
 -- The merge of two accepted texts keeps to the ceilings, its depth to the deeper one's; so it has a canonical text,
 -- which reads back to it; and it depends on what the two mean alone.
