@@ -1,6 +1,7 @@
 -- A number is written in at most six times as many bytes as it was read from.
 use Prim.Native.Char.{code}
 use Prim.Native.Nat.{_%_, _*_, _+_, _-_, _/_, _<_, _^_, _≤_, suc, zero, ℕ}
+use Rattle.meaning.proofs.Append.{number-append}
 use Rattle.meaning.specs.Canonical.{putDigits, putNumber, putPower, putSign}
 use Rattle.text.proofs.Decimals.{strip-most}
 use Rattle.text.proofs.Digits.{number-below}
@@ -14,7 +15,7 @@ use lib.Dec.{eqb, leb, ltb}
 use lib.ListN.{length, length-append}
 use mathlib.Core.Bool.{Bool, cond, false, true}
 use mathlib.Core.List.{[], _++_, _∷_}
-use mathlib.Core.Path.{_≡_, refl}
+use mathlib.Core.Path.{_∙_, _≡_, ap, refl}
 use native.Mathlib.Omega.{arith}
 
 -- A sign is written as a byte if it is minus.
@@ -29,37 +30,8 @@ sign-length true o = omega arith
 sign-length false o = omega arith
 
 -- The length of a number does not depend on what stands behind it.
-digits-alone : (n c : ℕ) (o o′ : Bytes) → length (putDigits n c o) + length o′ ≡ length (putDigits n c o′) + length o
-unfolding putDigits
-digits-alone zero c o o′ = omega arith
-digits-alone (suc n) c o o′ = by (ltb c 10) (digits-alone n (c / 10) ((code "0" + c % 10) ∷ o) ((code "0" + c % 10) ∷ o′))
-  where
-    by : (b : Bool)
-        → length (putDigits n (c / 10) ((code "0" + c % 10) ∷ o)) + suc (length o′) ≡ length (putDigits n (c / 10) ((code "0" + c % 10) ∷ o′)) + suc (length o)
-        → length {A = ℕ} (elim b as (λ _. Bytes) [ true ↦ (code "0" + c) ∷ o | false ↦ putDigits n (c / 10) ((code "0" + c % 10) ∷ o) ]) + length o′
-        ≡ length {A = ℕ} (elim b as (λ _. Bytes) [ true ↦ (code "0" + c) ∷ o′ | false ↦ putDigits n (c / 10) ((code "0" + c % 10) ∷ o′) ]) + length o
-    by true h = omega arith
-    by false h = omega arith
-
-power-alone : (down : Bool) (e : ℕ) (o o′ : Bytes) → length (putPower down e o) + length o′ ≡ length (putPower down e o′) + length o
-unfolding putPower
-power-alone down e o o′ = by (eqb e 0)
-  where
-    by : (b : Bool) → length {A = ℕ} (elim b as (λ _. Bytes) [ true ↦ o | false ↦ code "e" ∷ putSign down (putDigits maxPowerDigits e o) ]) + length o′
-        ≡ length {A = ℕ} (elim b as (λ _. Bytes) [ true ↦ o′ | false ↦ code "e" ∷ putSign down (putDigits maxPowerDigits e o′) ]) + length o
-    by true = omega arith
-    by false = omega (arith, sign-length down (putDigits maxPowerDigits e o), sign-length down (putDigits maxPowerDigits e o′), digits-alone maxPowerDigits e o o′)
-
 pub number-alone : (x : Decimal) (o : Bytes) → length (putNumber x o) ≡ length (putNumber x []) + length o
-unfolding putNumber
-number-alone (Decimal.decimal neg c down e) o =
-    omega (
-      arith,
-      sign-length neg (putDigits maxDigits c (putPower down e o)),
-      sign-length neg (putDigits maxDigits c (putPower down e [])),
-      digits-alone maxDigits c (putPower down e o) (putPower down e []),
-      power-alone down e o [],
-    )
+number-alone x o = ap length (number-append x [] o) ∙ length-append (putNumber x []) o
 
 -- A number below ten to the `m`, where `m` isn't 0, takes at most `m` digits, and never more than `n` are written.
 digits-length : (n c m : ℕ) (o : Bytes) → c < 10 ^ suc m → length (putDigits n c o) ≤ suc m + length o
