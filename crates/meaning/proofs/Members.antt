@@ -36,6 +36,14 @@ pub at-other : (j : Units) (t : Tree) (ps : Pairs) (k : Units) → (k ≡ j → 
 unfolding at
 at-other j t ps k n = ap (λ x. elim x as (λ _. Maybe) [ true ↦ Maybe.some (mean t) | false ↦ at ps k ]) (same-not k j n)
 
+-- Members that mean the same do so behind first members of one name and one meaning too.
+pub at-under : (j : Units) (s t : Tree) (ps qs : Pairs) (k : Units) → mean s ≡ mean t → at ps k ≡ at qs k → at (Pairs.pair j s ps) k ≡ at (Pairs.pair j t qs) k
+at-under j s t ps qs k e f = by (which k j)
+  where
+    by : Which k j → at (Pairs.pair j s ps) k ≡ at (Pairs.pair j t qs) k
+    by (Which.it p) = at-it j s ps k p ∙ ap Maybe.some e ∙ sym (at-it j t qs k p)
+    by (Which.other p) = at-other j s ps k p ∙ f ∙ sym (at-other j t qs k p)
+
 -- A name that no member has is not the first one's, and none of the rest has it.
 pub fresh-first : (j : Units) (t : Tree) (ps : Pairs) (k : Units) → at (Pairs.pair j t ps) k ≡ Maybe.none → k ≡ j → ⊥
 fresh-first j t ps k e f = some-none (sym (at-it j t ps k f) ∙ e)

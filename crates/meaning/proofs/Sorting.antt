@@ -1,12 +1,11 @@
 -- Members put in the order of their names: of each meaning there is one sorted tree.
 use Prim.Native.Nat.{ℕ}
 use Rattle.meaning.proofs.Keeps.{Keeps, KeepsAll, KeepsPairs, Units16}
-use Rattle.meaning.proofs.Members.{Which, at-it, at-other, fresh-first, fresh-rest, some-none, un-some, which}
+use Rattle.meaning.proofs.Members.{Which, at-it, at-other, at-under, fresh-first, fresh-rest, some-none, un-some, which}
 use Rattle.meaning.proofs.Order.{Placed, before, before-else, before-is, before-not, before-trans, place}
 use Rattle.meaning.specs.Meaning.{Maybe, Meaning, Meanings, Pairs, Tree, Trees, at, mean, means}
 use Rattle.meaning.specs.Order.{BeforeAll, Before, Sorted, SortedAll, SortedPairs}
 use Rattle.text.specs.Bytes.{Units}
-use Rattle.text.specs.Ceilings.{same}
 use Rattle.text.specs.Decimal.{Decimal}
 use Rattle.text.specs.Node.{Literal}
 use mathlib.Core.Bool.{Bool, false, true}
@@ -46,14 +45,6 @@ swap i j s t ps k n = by (which k i) (which k j)
     by (Which.other p) (Which.other q) =
         at-other i s (Pairs.pair j t ps) k p ∙ at-other j t ps k q ∙ sym (at-other i s ps k p) ∙ sym (at-other j t (Pairs.pair i s ps) k q)
 
--- Members that mean the same do so behind a first member too.
-under : (i : Units) (s : Tree) (ps qs : Pairs) (k : Units) → at ps k ≡ at qs k → at (Pairs.pair i s ps) k ≡ at (Pairs.pair i s qs) k
-under i s ps qs k e = by (which k i)
-  where
-    by : Which k i → at (Pairs.pair i s ps) k ≡ at (Pairs.pair i s qs) k
-    by (Which.it p) = at-it i s ps k p ∙ sym (at-it i s qs k p)
-    by (Which.other p) = at-other i s ps k p ∙ e ∙ sym (at-other i s qs k p)
-
 -- A new member means the same wherever it is put.
 pub at-insert : (j : Units) (t : Tree) (ps : Pairs) (k : Units) → at ps j ≡ Maybe.none → at (insert j t ps) k ≡ at (Pairs.pair j t ps) k
 unfolding insert
@@ -63,7 +54,7 @@ at-insert j t (Pairs.pair i s ps) k f = by (before j i) refl (at-insert j t ps k
     by : (b : Bool) → before j i ≡ b → at (insert j t ps) k ≡ at (Pairs.pair j t ps) k
         → at (elim b as (λ _. Pairs) [ true ↦ Pairs.pair j t (Pairs.pair i s ps) | false ↦ Pairs.pair i s (insert j t ps) ]) k ≡ at (Pairs.pair j t (Pairs.pair i s ps)) k
     by true p h = refl
-    by false p h = under i s (insert j t ps) (Pairs.pair j t ps) k h ∙ swap i j s t ps k (fresh-first i s ps j f)
+    by false p h = at-under i s s (insert j t ps) (Pairs.pair j t ps) k refl h ∙ swap i j s t ps k (fresh-first i s ps j f)
 
 -- Sorting changes no meaning.
 mutual
@@ -83,9 +74,7 @@ mutual
   pub at-canon : {d : ℕ} {ps : Pairs} → KeepsPairs d ps → (k : Units) → at (canonPairs ps) k ≡ at ps k
   at-canon KeepsPairs.empty k = refl
   at-canon (KeepsPairs.pair {k = j} {t = t} {ps = ps} u f o os) k =
-      at-insert j (canon t) (canonPairs ps) k (at-canon os j ∙ f)
-      ∙ under j (canon t) (canonPairs ps) ps k (at-canon os k)
-      ∙ ap (λ x. elim (same k j) as (λ _. Maybe) [ true ↦ Maybe.some x | false ↦ at ps k ]) (mean-canon o)
+      at-insert j (canon t) (canonPairs ps) k (at-canon os j ∙ f) ∙ at-under j (canon t) t (canonPairs ps) ps k (mean-canon o) (at-canon os k)
 
 -- Nor does it change what a tree keeps to.
 keeps-insert : {d : ℕ} {k : Units} {t : Tree} {ps : Pairs} → Units16 k → at ps k ≡ Maybe.none → Keeps d t → KeepsPairs d ps → KeepsPairs d (insert k t ps)

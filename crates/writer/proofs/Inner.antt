@@ -1,7 +1,7 @@
 -- The values inside a container by the numbers of their records.
 use Prim.Native.Nat.{_+_, _≤_, ℕ}
 use Rattle.meaning.proofs.Keeps.{Keeps, KeepsAll, KeepsPairs}
-use Rattle.meaning.proofs.Members.{Which, at-it, at-other, some-none, which}
+use Rattle.meaning.proofs.Members.{Which, at-it, at-other, at-under, some-none, which}
 use Rattle.meaning.proofs.Sorting.{canon, canonAll, mean-canon}
 use Rattle.meaning.specs.Meaning.{Maybe, Meaning, Pairs, Tree, Trees, at, mean, pairs, tree, trees}
 use Rattle.members.specs.Lists.{In}
@@ -88,13 +88,6 @@ unfolding pairsOf
 pairs-same name f g [] h = refl
 pairs-same name f g (x ∷ l) h = ap₂ (Pairs.pair (name x)) (h x In.here) (pairs-same name f g l (λ y i. h y (In.there i)))
 
-under : (j : Units) (s t : Tree) (ps qs : Pairs) (k : Units) → mean s ≡ mean t → at ps k ≡ at qs k → at (Pairs.pair j s ps) k ≡ at (Pairs.pair j t qs) k
-under j s t ps qs k e f = by (which k j)
-  where
-    by : Which k j → at (Pairs.pair j s ps) k ≡ at (Pairs.pair j t qs) k
-    by (Which.it p) = at-it j s ps k p ∙ ap Maybe.some e ∙ sym (at-it j t qs k p)
-    by (Which.other p) = at-other j s ps k p ∙ f ∙ sym (at-other j t qs k p)
-
 module _ (t : Bytes) (w : Words) where
   name-of : (k : ℕ) {q : ℕ} {us : Units} → word w k 2 ≡ q → nameAt t q ≡ us → nameOf t w k ≡ us
   unfolding nameOf
@@ -108,7 +101,7 @@ module _ (t : Bytes) (w : Words) where
       ap (λ ps. at (Pairs.pair (nameOf t w k) (treeAt (Child.child q v ∷ members ms) k k) ps) j)
       (pairs-same (nameOf t w) _ (treeAt (members ms) (k + size v)) (places (k + size v) (members ms)) (λ x i. tree-later k q v (members ms) i))
       ∙ ap (λ i. at (Pairs.pair i (treeAt (Child.child q v ∷ members ms) k k) (pairsOf (nameOf t w) (treeAt (members ms) (k + size v)) (places (k + size v) (members ms)))) j) (name-of k e n)
-      ∙ under us _ (tree v) _ (pairs ms) j (ap mean (tree-first q v (members ms) k) ∙ mean-canon x) (object-means s y z j)
+      ∙ at-under us _ (tree v) _ (pairs ms) j (ap mean (tree-first q v (members ms) k) ∙ mean-canon x) (object-means s y z j)
 
   -- No two of them have one name.
   named-some : {k b x : ℕ} {ms : Members} → Spelt t b ms → HeldAll t w k (members ms) → In x (places k (members ms)) → (m : Meaning) × (at (pairs ms) (nameOf t w x) ≡ Maybe.some m)
