@@ -3,13 +3,13 @@ use Prim.Native.Nat.{_*_, _+_, _<_, suc, zero, ℕ}
 use Rattle.meaning.specs.Lookup.{Seen, byName, child, isIndex, nth, resolve}
 use Rattle.meaning.specs.Meaning.{Maybe, Meaning, Meanings, at, mean, meaning, means, pairs, tree, trees}
 use Rattle.meaning.specs.Pointer.{Token}
-use Rattle.text.proofs.Offsets.{Inside, InsideAll, InsideMembers, end, start}
+use Rattle.text.proofs.Offsets.{Inside, InsideAll, InsideMembers, end, head-words, start}
 use Rattle.text.proofs.Records.{records-length, table-length}
 use Rattle.text.specs.Bytes.{Units, valueFrom}
 use Rattle.text.specs.Ceilings.{same}
 use Rattle.text.specs.Node.{Members, Node, Nodes}
 use Rattle.text.specs.Table.{Words, recordWords, records, recordsMembers, recordsAll, size, sizeAll, sizeMembers, table, unnamed}
-use lib.ListN.{drop, getD, length, length-append}
+use lib.ListN.{getD, length, length-append}
 use lib.Seq.{getD-append-add}
 use mathlib.Core.Bool.{Bool, false, true}
 use mathlib.Core.List.{List, [], _++_, _∷_, append-assoc, append-nil}
@@ -165,23 +165,15 @@ pub resolve-table : (ts : List Token) (v : Node) → HeldSeen (table v) 0 (resol
 unfolding table
 resolve-table ts v = resolve-held ts 0 v unnamed
 
--- A value's two offsets are the first two words of its record, ...
-first-words : (v : Node) (m k : ℕ) → records v m k ≡ start v ∷ end v ∷ drop 2 (records v m k)
-unfolding records start end
-first-words (Node.literal p q w) m k = refl
-first-words (Node.string p q us) m k = refl
-first-words (Node.number p q x) m k = refl
-first-words (Node.array p q vs) m k = refl
-first-words (Node.object p q ms) m k = refl
-
--- ... so the record that a look-up answers tells where the value stands.
+-- The record that a look-up answers tells where the value stands.
 pub found-span : (ts : List Token) (v : Node) {n : ℕ} {u : Node} → resolve ts 0 v ≡ Seen.found n u
     → (getD (table v) (recordWords * n) 0 ≡ start u) × (getD (table v) (suc (recordWords * n)) 0 ≡ end u)
 unfolding HeldSeen
 found-span ts v {n} {u} h =
     let (q, pre, post, e, l) = subst (HeldSeen (table v) 0) h (resolve-table ts v) in
-    let rest : Words = start u ∷ end u ∷ (drop 2 (records u q n) ++ post) in
-    let word : (j k : ℕ) → k ≡ length pre + j → getD (table v) k 0 ≡ getD rest j 0 = λ j k i. cc (e, first-words u q n, getD-append-add pre rest j 0) in
+    let (r, f) = head-words u q n in
+    let rest : Words = start u ∷ end u ∷ q ∷ (n + size u) ∷ (r ++ post) in
+    let word : (j k : ℕ) → k ≡ length pre + j → getD (table v) k 0 ≡ getD rest j 0 = λ j k i. cc (e, ap (λ z. z ++ post) f, getD-append-add pre rest j 0) in
     (word 0 (recordWords * n) (omega arith), word 1 (suc (recordWords * n)) (omega arith))
 
 -- It is one of the text's records, ...
@@ -189,8 +181,9 @@ pub found-number : (ts : List Token) (v : Node) {n : ℕ} {u : Node} → resolve
 unfolding HeldSeen
 found-number ts v {n} {u} h =
     let (q, pre, post, e, l) = subst (HeldSeen (table v) 0) h (resolve-table ts v) in
+    let (r, f) = head-words u q n in
     let all : length (table v) ≡ length (pre ++ (records u q n ++ post)) = ap length e in
-    omega (arith, table-length v, length-append pre (records u q n ++ post), length-append (records u q n) post, ap length (first-words u q n))
+    omega (arith, table-length v, length-append pre (records u q n ++ post), length-append (records u q n) post, ap length f)
 
 -- ... and what is found in a value stands inside whatever the value stands inside.
 unfoldable pub InsideSeen : ℕ → Seen → Type 0
