@@ -5,7 +5,7 @@ use Rattle.meaning.proofs.Keeps.{Keeps}
 use Rattle.meaning.proofs.Members.{Which, at-it, at-other, which}
 use Rattle.meaning.proofs.Merging.{keeps-merge, members-mean, merge-means, merge-object, mergeMeaning, null-means, old, set}
 use Rattle.meaning.proofs.Order.{Placed, place}
-use Rattle.meaning.proofs.Sorting.{above-none, above-trans, canon, mean-canon, sorted-canon, sorted-one}
+use Rattle.meaning.proofs.Sorting.{before-all-none, before-all-trans, canon, mean-canon, sorted-canon, sorted-one}
 use Rattle.meaning.specs.Meaning.{Maybe, Meaning, Pairs, Tree, at, mean}
 use Rattle.meaning.specs.Merge.{isNull, membersOf, merge}
 use Rattle.meaning.specs.Order.{BeforeAll, Sorted, SortedPairs}
@@ -71,25 +71,25 @@ mutual
   side-means (Side.keep {k} {t} {ps} {qs} {rs} a b s) j = by (which j k) (side-means s j)
     where
       by : Which j k → at rs j ≡ set (at ps j) (at qs j) → at (Pairs.pair k t rs) j ≡ set (at (Pairs.pair k t ps) j) (at qs j)
-      by (Which.it e) h = at-it k t rs j e ∙ sym (ap₂ set (at-it k t ps j e) (ap (at qs) e ∙ above-none b))
+      by (Which.it e) h = at-it k t rs j e ∙ sym (ap₂ set (at-it k t ps j e) (ap (at qs) e ∙ before-all-none b))
       by (Which.other n) h = at-other k t rs j n ∙ h ∙ ap (λ o. set o (at qs j)) (sym (at-other k t ps j n))
   side-means (Side.skip {k} {p} {ps} {qs} {rs} a b z s) j = by (which j k) (side-means s j)
     where
       by : Which j k → at rs j ≡ set (at ps j) (at qs j) → at rs j ≡ set (at ps j) (at (Pairs.pair k p qs) j)
-      by (Which.it e) h = h ∙ ap₂ set (ap (at ps) e ∙ above-none a) (ap (at qs) e ∙ above-none b) ∙ sym (ap (set (at ps j)) (at-it k p qs j e) ∙ set-null (at ps j) p z)
+      by (Which.it e) h = h ∙ ap₂ set (ap (at ps) e ∙ before-all-none a) (ap (at qs) e ∙ before-all-none b) ∙ sym (ap (set (at ps j)) (at-it k p qs j e) ∙ set-null (at ps j) p z)
       by (Which.other n) h = h ∙ ap (set (at ps j)) (sym (at-other k p qs j n))
   side-means (Side.new {k} {p} {r} {ps} {qs} {rs} a b z m s) j = by (which j k) (side-means s j) (merged-means m)
     where
       by : Which j k → at rs j ≡ set (at ps j) (at qs j) → mean r ≡ mergeMeaning (mean nothing) (mean p) → at (Pairs.pair k r rs) j ≡ set (at ps j) (at (Pairs.pair k p qs) j)
       by (Which.it e) h f =
           at-it k r rs j e ∙ ap Maybe.some f
-          ∙ sym (ap₂ set (ap (at ps) e ∙ above-none a) (at-it k p qs j e) ∙ set-some Maybe.none p z)
+          ∙ sym (ap₂ set (ap (at ps) e ∙ before-all-none a) (at-it k p qs j e) ∙ set-some Maybe.none p z)
       by (Which.other n) h f = at-other k r rs j n ∙ h ∙ ap (set (at ps j)) (sym (at-other k p qs j n))
   side-means (Side.remove {k} {t} {p} {ps} {qs} {rs} a b z s) j = by (which j k) (side-means s j)
     where
       by : Which j k → at rs j ≡ set (at ps j) (at qs j) → at rs j ≡ set (at (Pairs.pair k t ps) j) (at (Pairs.pair k p qs) j)
       by (Which.it e) h =
-          h ∙ ap₂ set (ap (at ps) e ∙ above-none a) (ap (at qs) e ∙ above-none b)
+          h ∙ ap₂ set (ap (at ps) e ∙ before-all-none a) (ap (at qs) e ∙ before-all-none b)
           ∙ sym (ap (set (at (Pairs.pair k t ps) j)) (at-it k p qs j e) ∙ set-null (at (Pairs.pair k t ps) j) p z)
       by (Which.other n) h = h ∙ ap₂ set (sym (at-other k t ps j n)) (sym (at-other k p qs j n))
   side-means (Side.change {k} {t} {p} {r} {ps} {qs} {rs} a b z m s) j = by (which j k) (side-means s j) (merged-means m)
@@ -100,13 +100,13 @@ mutual
       by (Which.other n) h f = at-other k r rs j n ∙ h ∙ ap₂ set (sym (at-other k t ps j n)) (sym (at-other k p qs j n))
 
 -- It is sorted where both are.
-side-above : {k : Units} {ps qs rs : Pairs} → BeforeAll k ps → BeforeAll k qs → Side ps qs rs → BeforeAll k rs
-side-above a b Side.end = BeforeAll.none
-side-above (BeforeAll.next x a) b (Side.keep _ _ s) = BeforeAll.next x (side-above a b s)
-side-above a (BeforeAll.next x b) (Side.skip _ _ z s) = side-above a b s
-side-above a (BeforeAll.next x b) (Side.new _ _ z m s) = BeforeAll.next x (side-above a b s)
-side-above (BeforeAll.next x a) (BeforeAll.next y b) (Side.remove _ _ z s) = side-above a b s
-side-above (BeforeAll.next x a) (BeforeAll.next y b) (Side.change _ _ z m s) = BeforeAll.next x (side-above a b s)
+side-before-all : {k : Units} {ps qs rs : Pairs} → BeforeAll k ps → BeforeAll k qs → Side ps qs rs → BeforeAll k rs
+side-before-all a b Side.end = BeforeAll.none
+side-before-all (BeforeAll.next x a) b (Side.keep _ _ s) = BeforeAll.next x (side-before-all a b s)
+side-before-all a (BeforeAll.next x b) (Side.skip _ _ z s) = side-before-all a b s
+side-before-all a (BeforeAll.next x b) (Side.new _ _ z m s) = BeforeAll.next x (side-before-all a b s)
+side-before-all (BeforeAll.next x a) (BeforeAll.next y b) (Side.remove _ _ z s) = side-before-all a b s
+side-before-all (BeforeAll.next x a) (BeforeAll.next y b) (Side.change _ _ z m s) = BeforeAll.next x (side-before-all a b s)
 
 members-sorted : {t : Tree} → Sorted t → SortedPairs (membersOf t)
 unfolding membersOf
@@ -123,11 +123,11 @@ mutual
 
   side-sorted : {ps qs rs : Pairs} → Side ps qs rs → SortedPairs ps → SortedPairs qs → SortedPairs rs
   side-sorted Side.end x y = SortedPairs.empty
-  side-sorted (Side.keep a b s) (SortedPairs.pair c t x) y = SortedPairs.pair (side-above a b s) t (side-sorted s x y)
+  side-sorted (Side.keep a b s) (SortedPairs.pair c t x) y = SortedPairs.pair (side-before-all a b s) t (side-sorted s x y)
   side-sorted (Side.skip a b z s) x (SortedPairs.pair c p y) = side-sorted s x y
-  side-sorted (Side.new a b z m s) x (SortedPairs.pair c p y) = SortedPairs.pair (side-above a b s) (merged-sorted m Sorted.literal p) (side-sorted s x y)
+  side-sorted (Side.new a b z m s) x (SortedPairs.pair c p y) = SortedPairs.pair (side-before-all a b s) (merged-sorted m Sorted.literal p) (side-sorted s x y)
   side-sorted (Side.remove a b z s) (SortedPairs.pair c t x) (SortedPairs.pair d p y) = side-sorted s x y
-  side-sorted (Side.change a b z m s) (SortedPairs.pair c t x) (SortedPairs.pair d p y) = SortedPairs.pair (side-above a b s) (merged-sorted m t p) (side-sorted s x y)
+  side-sorted (Side.change a b z m s) (SortedPairs.pair c t x) (SortedPairs.pair d p y) = SortedPairs.pair (side-before-all a b s) (merged-sorted m t p) (side-sorted s x y)
 
 -- One member of the patch among those of the target, where its value has a merge with any, and the others have.
 module _ {j : Units} {p : Tree} {qs : Pairs} (b : BeforeAll j qs) (f : (t : Tree) → Sorted t → (r : Tree) × Merged t p r) (g : (ps : Pairs) → SortedPairs ps → (rs : Pairs) × Side ps qs rs) where
@@ -144,9 +144,9 @@ module _ {j : Units} {p : Tree} {qs : Pairs} (b : BeforeAll j qs) (f : (t : Tree
   among (SortedPairs.pair {k = k} {t = t} {ps = ps} a y x) = by (place k j) (among x)
     where
       by : Placed k j → (rs : Pairs) × Side ps (Pairs.pair j p qs) rs → (rs : Pairs) × Side (Pairs.pair k t ps) (Pairs.pair j p qs) rs
-      by (Placed.ahead l) (rs, s) = (Pairs.pair k t rs, Side.keep a (BeforeAll.next l (above-trans l b)) s)
+      by (Placed.ahead l) (rs, s) = (Pairs.pair k t rs, Side.keep a (BeforeAll.next l (before-all-trans l b)) s)
       by (Placed.equal e) s = subst (λ i. (rs : Pairs) × Side (Pairs.pair i t ps) (Pairs.pair j p qs) rs) (sym e) (both (subst (λ i. BeforeAll i ps) e a) y x (isNull p) refl)
-      by (Placed.behind l) s = alone (BeforeAll.next l (above-trans l a)) (SortedPairs.pair a y x) (isNull p) refl
+      by (Placed.behind l) s = alone (BeforeAll.next l (before-all-trans l a)) (SortedPairs.pair a y x) (isNull p) refl
 
 -- Sorted trees have a merge.
 mutual

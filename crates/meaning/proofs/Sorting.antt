@@ -4,7 +4,7 @@ use Rattle.meaning.proofs.Keeps.{Keeps, KeepsAll, KeepsPairs, Units16}
 use Rattle.meaning.proofs.Members.{Which, at-it, at-other, at-under, fresh-first, fresh-rest, some-none, un-some, which}
 use Rattle.meaning.proofs.Order.{Placed, before, before-else, before-is, before-not, before-trans, place}
 use Rattle.meaning.specs.Meaning.{Maybe, Meaning, Meanings, Pairs, Tree, Trees, at, mean, means}
-use Rattle.meaning.specs.Order.{BeforeAll, Before, Sorted, SortedAll, SortedPairs}
+use Rattle.meaning.specs.Order.{Before, BeforeAll, Sorted, SortedAll, SortedPairs}
 use Rattle.text.specs.Bytes.{Units}
 use Rattle.text.specs.Decimal.{Decimal}
 use Rattle.text.specs.Node.{Literal}
@@ -108,14 +108,14 @@ mutual
   keeps-canonPairs (KeepsPairs.pair {k = j} u f o os) = keeps-insert u (at-canon os j ∙ f) (keeps-canon o) (keeps-canonPairs os)
 
 -- The sorted tree is sorted.
-pub above-trans : {j k : Units} {ps : Pairs} → Before j k → BeforeAll k ps → BeforeAll j ps
-above-trans p BeforeAll.none = BeforeAll.none
-above-trans p (BeforeAll.next q a) = BeforeAll.next (before-trans p q) (above-trans p a)
+pub before-all-trans : {j k : Units} {ps : Pairs} → Before j k → BeforeAll k ps → BeforeAll j ps
+before-all-trans p BeforeAll.none = BeforeAll.none
+before-all-trans p (BeforeAll.next q a) = BeforeAll.next (before-trans p q) (before-all-trans p a)
 
-pub above-insert : (t : Tree) {j k : Units} {ps : Pairs} → Before j k → BeforeAll j ps → BeforeAll j (insert k t ps)
+pub before-all-insert : (t : Tree) {j k : Units} {ps : Pairs} → Before j k → BeforeAll j ps → BeforeAll j (insert k t ps)
 unfolding insert
-above-insert t p BeforeAll.none = BeforeAll.next p BeforeAll.none
-above-insert t {j} {k} p (BeforeAll.next {j = i} {t = s} {ps = ps} q a) = by (before k i) (above-insert t p a)
+before-all-insert t p BeforeAll.none = BeforeAll.next p BeforeAll.none
+before-all-insert t {j} {k} p (BeforeAll.next {j = i} {t = s} {ps = ps} q a) = by (before k i) (before-all-insert t p a)
   where
     by : (b : Bool) → BeforeAll j (insert k t ps) → BeforeAll j (elim b as (λ _. Pairs) [ true ↦ Pairs.pair k t (Pairs.pair i s ps) | false ↦ Pairs.pair i s (insert k t ps) ])
     by true r = BeforeAll.next p (BeforeAll.next q a)
@@ -128,8 +128,8 @@ sorted-insert k {t} f s (SortedPairs.pair {k = j} {t = r} {ps = ps} a s′ ss) =
   where
     by : (b : Bool) → before k j ≡ b → SortedPairs (insert k t ps)
         → SortedPairs (elim b as (λ _. Pairs) [ true ↦ Pairs.pair k t (Pairs.pair j r ps) | false ↦ Pairs.pair j r (insert k t ps) ])
-    by true p h = let q : Before k j = before-is k j p in SortedPairs.pair (BeforeAll.next q (above-trans q a)) s (SortedPairs.pair a s′ ss)
-    by false p h = SortedPairs.pair (above-insert t (before-else k j p (fresh-first j r ps k f)) a) s′ h
+    by true p h = let q : Before k j = before-is k j p in SortedPairs.pair (BeforeAll.next q (before-all-trans q a)) s (SortedPairs.pair a s′ ss)
+    by false p h = SortedPairs.pair (before-all-insert t (before-else k j p (fresh-first j r ps k f)) a) s′ h
 
 mutual
   unfolding canon
@@ -150,10 +150,10 @@ mutual
   sorted-canonPairs (KeepsPairs.pair {k = j} u f o os) = sorted-insert j (at-canon os j ∙ f) (sorted-canon o) (sorted-canonPairs os)
 
 -- A name before all the names is none of them.
-pub above-none : {k : Units} {ps : Pairs} → BeforeAll k ps → at ps k ≡ Maybe.none
+pub before-all-none : {k : Units} {ps : Pairs} → BeforeAll k ps → at ps k ≡ Maybe.none
 unfolding at
-above-none BeforeAll.none = refl
-above-none {k} (BeforeAll.next {j = j} {t = t} {ps = ps} p a) = at-other j t ps k (before-not p) ∙ above-none a
+before-all-none BeforeAll.none = refl
+before-all-none {k} (BeforeAll.next {j = j} {t = t} {ps = ps} p a) = at-other j t ps k (before-not p) ∙ before-all-none a
 
 -- `Shape m t`: `t` is built as its meaning `m` is, and means `m`.
 data Shape : Meaning → Tree → Type 0 where
@@ -182,16 +182,16 @@ module _ {j i : Units} {t s : Tree} {ps qs : Pairs} (a : BeforeAll j ps) (b : Be
   first-members = by (place j i)
     where
       rest : j ≡ i → (k : Units) → Which k j → at qs k ≡ at ps k
-      rest e k (Which.it p) = ap (at qs) (p ∙ e) ∙ above-none b ∙ sym (ap (at ps) p ∙ above-none a)
+      rest e k (Which.it p) = ap (at qs) (p ∙ e) ∙ before-all-none b ∙ sym (ap (at ps) p ∙ before-all-none a)
       rest e k (Which.other p) = sym (at-other i s qs k (λ q. p (q ∙ sym e))) ∙ h k ∙ at-other j t ps k p
 
       by : Placed j i → Pairs.pair j t ps ≡ Pairs.pair i s qs
-      by (Placed.ahead p) = absurd (some-none (sym (at-it j t ps j refl) ∙ sym (h j) ∙ above-none (BeforeAll.next p (above-trans p b))))
+      by (Placed.ahead p) = absurd (some-none (sym (at-it j t ps j refl) ∙ sym (h j) ∙ before-all-none (BeforeAll.next p (before-all-trans p b))))
       by (Placed.equal e) =
           let x : t ≡ s = f (shape-of s (un-some (sym (at-it i s qs j e) ∙ h j ∙ at-it j t ps j refl))) in
           let y : ps ≡ qs = g (λ k. rest e k (which k j)) in
           cc
-      by (Placed.behind p) = absurd (some-none (sym (at-it i s qs i refl) ∙ h i ∙ above-none (BeforeAll.next p (above-trans p a))))
+      by (Placed.behind p) = absurd (some-none (sym (at-it i s qs i refl) ∙ h i ∙ before-all-none (BeforeAll.next p (before-all-trans p a))))
 
 mutual
   unfolding mean

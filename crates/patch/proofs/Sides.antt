@@ -3,7 +3,7 @@ use Rattle.meaning.proofs.Order.{before-not, before-trans}
 use Rattle.meaning.proofs.SideBySide.{Merged, Side, nothing}
 use Rattle.meaning.specs.Meaning.{Pairs, Tree}
 use Rattle.meaning.specs.Merge.{isNull}
-use Rattle.meaning.specs.Order.{BeforeAll, Before}
+use Rattle.meaning.specs.Order.{Before, BeforeAll}
 use Rattle.text.specs.Bytes.{Units}
 use mathlib.Core.Bool.{false, true}
 use mathlib.Core.Path.{_≡_, refl, sym}

@@ -3,7 +3,7 @@
 use Prim.Native.Nat.{_<_, _≤_, ℕ}
 use Rattle.meaning.proofs.Members.{Which, at-it, at-other, which}
 use Rattle.meaning.specs.Meaning.{Maybe, Pairs, Tree, Trees, at, mean}
-use Rattle.meaning.specs.Order.{BeforeAll, Before, SortedPairs}
+use Rattle.meaning.specs.Order.{Before, BeforeAll, SortedPairs}
 use Rattle.meaning.specs.Order as meaning
 use Rattle.members.proofs.Membership.{in-none}
 use Rattle.members.proofs.Ordering.{before-less, before-other}
@@ -86,10 +86,10 @@ module _ (name : ℕ → Units) (value : ℕ → Tree) where
       by (inr n) = at-lost a k (λ x i. n x (s .to x i)) ∙ sym (at-lost b k n)
 
   -- Records in order give members in order.
-  above : (x : ℕ) (l : List ℕ) → ((v : ℕ) → In v l → Before (name x) (name v)) → BeforeAll (name x) (pairsOf name value l)
+  before-all : (x : ℕ) (l : List ℕ) → ((v : ℕ) → In v l → Before (name x) (name v)) → BeforeAll (name x) (pairsOf name value l)
   unfolding pairsOf
-  above x [] f = BeforeAll.none
-  above x (y ∷ l) f = BeforeAll.next (f y In.here) (above x l (λ v i. f v (In.there i)))
+  before-all x [] f = BeforeAll.none
+  before-all x (y ∷ l) f = BeforeAll.next (f y In.here) (before-all x l (λ v i. f v (In.there i)))
 
   ahead-of : (x v : ℕ) → before name x v ≡ true → (name x ≡ name v → x ≡ v) → Before (name x) (name v)
   ahead-of x v e d =
@@ -100,5 +100,5 @@ module _ (name : ℕ → Units) (value : ℕ → Tree) where
   unfolding pairsOf
   gathered-sorted Sorted.none d f = SortedPairs.empty
   gathered-sorted (Sorted.more {x} {l} h s) d f =
-      SortedPairs.pair (above x l (λ v i. ahead-of x v (h v i) (d x v In.here (In.there i)))) (f x In.here)
+      SortedPairs.pair (before-all x l (λ v i. ahead-of x v (h v i) (d x v In.here (In.there i)))) (f x In.here)
       (gathered-sorted s (λ a b i j. d a b (In.there i) (In.there j)) (λ y i. f y (In.there i)))
