@@ -61,9 +61,6 @@ reading-only {k} {t} {w} (Reading.accepted l m x) = fits k t w l m ∙ ap (fille
 pub ready-text : {k : ℕ} {t : Bytes} {w w′ : Words} {v : Node} → Reading k t w (Read.ready v w′) → Text house t v
 ready-text (Reading.accepted l m x) = x
 
-pub ready-table : {k : ℕ} {t : Bytes} {w w′ : Words} {v : Node} → Reading k t w (Read.ready v w′) → w′ ≡ over (table v) w
-ready-table (Reading.accepted l m x) = refl
-
 pub stop-number : {k n i p c : ℕ} {t : Bytes} {w w′ : Words} → Reading k t w (Read.stop (Answer.answer n i p c) w′) → 0 < n
 stop-number (Reading.long h) = omega arith
 stop-number (Reading.narrow l m) = omega arith

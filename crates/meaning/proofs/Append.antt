@@ -99,6 +99,3 @@ mutual
 -- The text of a value apart from what follows it.
 pub put-alone : (t : Tree) (o : Bytes) → put t o ≡ put t [] ++ o
 put-alone t o = put-append t [] o
-
-pub units-alone : (us : Units) (o : Bytes) → putUnits us o ≡ putUnits us [] ++ o
-units-alone us o = units-append us [] o

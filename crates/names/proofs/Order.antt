@@ -71,9 +71,6 @@ module _ (xs ys : Units) where
   pub order-most : order xs ys ≤ 2
   order-most = omega (arith, order-flip xs ys)
 
-  pub before-behind : order xs ys ≡ 0 → order ys xs ≡ 2
-  before-behind e = omega (arith, order-flip xs ys)
-
   pub behind-before : order ys xs ≡ 2 → order xs ys ≡ 0
   behind-before e = omega (arith, order-flip xs ys)
 
