@@ -51,7 +51,7 @@ unfolding putSign
 sign-append true a b = refl
 sign-append false a b = refl
 
-pub power-append : (s : Bool) (e : ℕ) (a b : Bytes) → putPower s e (a ++ b) ≡ putPower s e a ++ b
+power-append : (s : Bool) (e : ℕ) (a b : Bytes) → putPower s e (a ++ b) ≡ putPower s e a ++ b
 unfolding putPower
 power-append s e a b = by (eqb e 0)
   where
@@ -73,7 +73,7 @@ named-append k a b e = ap (λ x. putUnits k (code "\"" ∷ code ":" ∷ x)) e �
 mutual
   unfolding put
 
-  pub put-append : (t : Tree) (a b : Bytes) → put t (a ++ b) ≡ put t a ++ b
+  put-append : (t : Tree) (a b : Bytes) → put t (a ++ b) ≡ put t a ++ b
   put-append (Tree.literal w) a b = sym (append-assoc (spelling w) a b)
   put-append (Tree.string us) a b = ap (λ x. code "\"" ∷ x) (units-append us (code "\"" ∷ a) b)
   put-append (Tree.number x) a b = number-append x a b

@@ -32,7 +32,7 @@ pub canonical-one : {m : Meaning} {c d : Bytes} → Canonical m c → Canonical 
 canonical-one (Canonical.canonical s x e p) (Canonical.canonical t y f q) = sym p ∙ ap (λ t. put t []) (sorted-one x y (e ∙ sym f)) ∙ q
 
 -- It is a text of the grammar within all ceilings, and means what it was written for.
-pub canonical-back : {t : Tree} {c : Bytes} → Keeps 0 t → Canonical (mean t) c → (w : Node) × Text house c w × (meaning w ≡ mean t)
+canonical-back : {t : Tree} {c : Bytes} → Keeps 0 t → Canonical (mean t) c → (w : Node) × Text house c w × (meaning w ≡ mean t)
 canonical-back {t} k x =
     let (w, y, e) = put-text (keeps-canon k) in
     (w, subst (λ i. Text house i w) (canonical-one (canonical-of k) x) y, ap mean e ∙ mean-canon k)

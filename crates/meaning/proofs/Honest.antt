@@ -28,13 +28,13 @@ abbrev pub Within : Pairs → Pairs → Type 0
 Within ps qs = (k : Units) (t : Tree) → In k t ps → (s : Tree) × In k s qs × (mean t ≡ mean s)
 
 -- Members that keep to the ceilings mean at each member's name what its value means, and nothing else anywhere.
-pub in-at : {d : ℕ} {ps : Pairs} {k : Units} {t : Tree} → KeepsPairs d ps → In k t ps → at ps k ≡ Maybe.some (mean t)
+in-at : {d : ℕ} {ps : Pairs} {k : Units} {t : Tree} → KeepsPairs d ps → In k t ps → at ps k ≡ Maybe.some (mean t)
 in-at {k = k} {t = t} (KeepsPairs.pair {k = j} {ps = ps} u f o os) (In.first e) = at-it j t ps k e
 in-at {k = k} {t = t} (KeepsPairs.pair {k = j} {t = s} {ps = ps} u f o os) (In.later i) =
     let h : at ps k ≡ Maybe.some (mean t) = in-at os i in
     at-other j s ps k (λ e. some-none (sym h ∙ ap (at ps) e ∙ f)) ∙ h
 
-pub at-in : (ps : Pairs) (k : Units) {m : Meaning} → at ps k ≡ Maybe.some m → (t : Tree) × In k t ps × (mean t ≡ m)
+at-in : (ps : Pairs) (k : Units) {m : Meaning} → at ps k ≡ Maybe.some m → (t : Tree) × In k t ps × (mean t ≡ m)
 unfolding at
 at-in Pairs.empty k e = absurd (some-none (sym e))
 at-in (Pairs.pair j t ps) k {m} e = by (which k j) (λ h. at-in ps k h)

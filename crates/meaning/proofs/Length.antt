@@ -35,7 +35,7 @@ unfoldable mutual
   widthPairs (Pairs.pair k t ps) = 4 + (6 * length k + (width t + widthPairs ps))
 
 -- The writing of a unit, and of a string.
-pub unit-length : (u : ℕ) (o : Bytes) → length (putUnit u o) ≤ 6 + length o
+unit-length : (u : ℕ) (o : Bytes) → length (putUnit u o) ≤ 6 + length o
 unfolding putUnit
 unit-length u o = by (isBare u) (eqb u (code "\"") || eqb u (code "\\"))
   where
@@ -86,7 +86,7 @@ mutual
 mutual
   unfolding tree width spelling
 
-  pub value-length : {d : ℕ} {i o : Source} {v : Node} → Value house d i o v → width (tree v) + 6 * left o ≤ 6 * left i
+  value-length : {d : ℕ} {i o : Source} {v : Node} → Value house d i o v → width (tree v) + 6 * left o ≤ 6 * left i
   value-length (rule.value-space w x) = omega (arith, value-length x)
   value-length (rule.null w) = omega (arith, word-takes w)
   value-length (rule.true w) = omega (arith, word-takes w)

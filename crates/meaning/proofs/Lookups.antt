@@ -74,7 +74,7 @@ child-means p us n (Node.array a e vs) = branches (λ s m. seenMeaning s ≡ m) 
 child-means p us n (Node.object a e ms) = name-means p us (suc n) ms
 
 -- What a pointer finds in a text means what the text's meaning gives, and it is lost where the meaning loses it.
-pub resolve-means : (ts : List Token) (n : ℕ) (v : Node) → seenMeaning (resolve ts n v) ≡ resolveMeaning ts (meaning v)
+resolve-means : (ts : List Token) (n : ℕ) (v : Node) → seenMeaning (resolve ts n v) ≡ resolveMeaning ts (meaning v)
 unfolding resolve resolveMeaning seenMeaning
 resolve-means [] n v = refl
 resolve-means (Token.token p us ∷ ts) n v = by (child p us n v) refl (λ m w. resolve-means ts m w)
@@ -149,7 +149,7 @@ child-held p us n (Node.object a e ms) x =
     held-behind (a ∷ e ∷ x ∷ (n + suc (sizeMembers ms)) ∷ []) n (suc n) (recordsMembers ms (suc n)) (byName p us (suc n) ms) (omega arith) (name-held p us (suc n) ms)
 
 -- The look-up's number counts records: the words from four times it on are the found value's own.
-pub resolve-held : (ts : List Token) (n : ℕ) (v : Node) (x : ℕ) → HeldSeen (records v x n) n (resolve ts n v)
+resolve-held : (ts : List Token) (n : ℕ) (v : Node) (x : ℕ) → HeldSeen (records v x n) n (resolve ts n v)
 unfolding resolve HeldSeen
 resolve-held [] n v x = (x, [], [], sym (append-nil (records v x n)), omega arith)
 resolve-held (Token.token p us ∷ ts) n v x = by (child p us n v) (child-held p us n v x) (λ m w q. resolve-held ts m w q)

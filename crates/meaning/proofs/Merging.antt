@@ -122,7 +122,7 @@ merge-again m (Meaning.array ps) = refl
 merge-again m (Meaning.object f) = object-again m f (λ k. set-again (f k))
 
 -- The parts of the merge of trees mean those of the merge of meanings.
-pub find-means : (ps : Pairs) (k : Units) → mean (find ps k) ≡ old (at ps k)
+find-means : (ps : Pairs) (k : Units) → mean (find ps k) ≡ old (at ps k)
 unfolding find at old
 find-means Pairs.empty k = refl
 find-means (Pairs.pair j t ps) k = by (same k j) (find-means ps k)
@@ -151,7 +151,7 @@ null-means (Tree.array ts) = refl
 null-means (Tree.object ps) = refl
 
 -- Removing a name's members leaves nothing there, and all that is elsewhere.
-pub remove-it : (k : Units) (ps : Pairs) → at (remove k ps) k ≡ Maybe.none
+remove-it : (k : Units) (ps : Pairs) → at (remove k ps) k ≡ Maybe.none
 unfolding remove at
 remove-it k Pairs.empty = refl
 remove-it k (Pairs.pair j t ps) = by (same k j) refl (remove-it k ps)
@@ -160,7 +160,7 @@ remove-it k (Pairs.pair j t ps) = by (same k j) refl (remove-it k ps)
     by true e h = h
     by false e h = at-other j t (remove k ps) k (same-no k j e) ∙ h
 
-pub remove-other : (k : Units) (ps : Pairs) (j : Units) → (j ≡ k → ⊥) → at (remove k ps) j ≡ at ps j
+remove-other : (k : Units) (ps : Pairs) (j : Units) → (j ≡ k → ⊥) → at (remove k ps) j ≡ at ps j
 unfolding remove
 remove-other k Pairs.empty j n = refl
 remove-other k (Pairs.pair i t ps) j n = by (same k i) refl (remove-other k ps j n) (which j i)
@@ -236,7 +236,7 @@ keeps-remove {d} k (KeepsPairs.pair {k = j} {t = t} {ps = ps} u f o os) = by (sa
     by true e r = r
     by false e r = KeepsPairs.pair u (remove-other k ps j (λ p. same-no k j e (sym p)) ∙ f) o r
 
-pub keeps-find : {d : ℕ} {ps : Pairs} → KeepsPairs d ps → (k : Units) → Keeps d (find ps k)
+keeps-find : {d : ℕ} {ps : Pairs} → KeepsPairs d ps → (k : Units) → Keeps d (find ps k)
 unfolding find
 keeps-find KeepsPairs.empty k = Keeps.literal
 keeps-find {d} (KeepsPairs.pair {k = j} {t = t} {ps = ps} u f o os) k = by (same k j) (keeps-find os k)
@@ -253,7 +253,7 @@ keeps-step {d} {ms} {k} p {r} os u o = by (isNull p)
     by true = keeps-remove k os
     by false = KeepsPairs.pair u (remove-it k ms) o (keeps-remove k os)
 
-pub keeps-members : {d : ℕ} {t : Tree} → Keeps d t → KeepsPairs (suc d) (membersOf t)
+keeps-members : {d : ℕ} {t : Tree} → Keeps d t → KeepsPairs (suc d) (membersOf t)
 unfolding membersOf
 keeps-members Keeps.literal = KeepsPairs.empty
 keeps-members (Keeps.string u) = KeepsPairs.empty

@@ -24,7 +24,7 @@ mutual
     present : {m : Meaning} → isNullMeaning m ≡ false → NullFree m → NullFreeMember (Maybe.some m)
 
 -- A merge is null exactly when its patch is.
-pub null-merge : (m p : Meaning) → isNullMeaning (mergeMeaning m p) ≡ isNullMeaning p
+null-merge : (m p : Meaning) → isNullMeaning (mergeMeaning m p) ≡ isNullMeaning p
 unfolding isNullMeaning mergeMeaning
 null-merge m (Meaning.literal w) = refl
 null-merge m (Meaning.string us) = refl
@@ -54,7 +54,7 @@ free-set o p h = by (isNullMeaning p) refl
     by false e = NullFreeMember.present (null-merge (old o) p ∙ e) h
 
 -- No patch brings a null member: where the target has none, the result has none.
-pub free-merge : (p : Meaning) {m : Meaning} → NullFree m → NullFree (mergeMeaning m p)
+free-merge : (p : Meaning) {m : Meaning} → NullFree m → NullFree (mergeMeaning m p)
 unfolding mergeMeaning set
 free-merge p {m} h =
     (elim p as (λ p. (m : Meaning) → NullFree m → NullFree (mergeMeaning m p)) (λ _. Unit {0}) (λ q. (o : Maybe) → NullFreeMember o → NullFreeMember (set o q)) [

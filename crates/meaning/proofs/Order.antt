@@ -52,7 +52,7 @@ before [] (y ∷ ys) = true
 before (x ∷ xs) [] = false
 before (x ∷ xs) (y ∷ ys) = elim (ltb x y) [ true ↦ true | false ↦ elim (eqb x y) [ true ↦ before xs ys | false ↦ false ] ]
 
-pub before-yes : {j k : Units} → Before j k → before j k ≡ true
+before-yes : {j k : Units} → Before j k → before j k ≡ true
 unfolding before
 before-yes Before.prefix = refl
 before-yes (Before.less {x} {y} h) = rw (lt-ltb x y h, before)

@@ -102,7 +102,7 @@ split-complete (TokenRest.plain {n = n} {b = b} {i = i} t x) =
 split-complete (TokenRest.tilde x) = ap (withUnit (code "~")) (split-complete x)
 split-complete (TokenRest.slash x) = ap (withUnit (code "/")) (split-complete x)
 
-pub parse-complete : {t : Bytes} {ts : List Token} → Tokens t ts → parse t ≡ Parsed.tokens ts
+parse-complete : {t : Bytes} {ts : List Token} → Tokens t ts → parse t ≡ Parsed.tokens ts
 unfolding parse
 parse-complete Tokens.whole = refl
 parse-complete (Tokens.first x) = ap opened (split-complete x)
@@ -248,7 +248,7 @@ mutual
   splits-tilde (b ∷ i) n = tilde-by b i n (eqb b (code "0")) (eqb b (code "1")) refl refl (splits i (suc (suc n)))
 
 -- What could become tokens has beginnings that could.
-pub begins-cut : (p q : Bytes) → Begins (p ++ q) → Begins p
+begins-cut : (p q : Bytes) → Begins (p ++ q) → Begins p
 begins-cut p q (w, ts, x) = (q ++ w, ts, subst (λ t. Tokens t ts) (append-assoc p q w) x)
 
 pub begins-whole : (t : Bytes) (ts : List Token) → Tokens t ts → Begins t
@@ -283,7 +283,7 @@ unfolding opened
 ruled-opened (Splits.good x) = Ruled.tokens (Tokens.first x)
 ruled-opened (Splits.bad f) = ruled-fault f
 
-pub ruled : (t : Bytes) → Ruled t (parse t)
+ruled : (t : Bytes) → Ruled t (parse t)
 unfolding parse
 ruled [] = Ruled.tokens Tokens.whole
 ruled (b ∷ i) = by (eqb b (code "/")) refl
@@ -301,7 +301,7 @@ pub parse-right : (t : Bytes) (ts : List Token) → (parse t ≡ Parsed.tokens t
 parse-right t ts = ((λ e. un-ruled e (ruled t)), (λ p. parse-complete p))
 
 -- Bytes are the tokens of one list at most.
-pub tokens-one : {p : Bytes} {ts ts′ : List Token} → Tokens p ts → Tokens p ts′ → ts ≡ ts′
+tokens-one : {p : Bytes} {ts ts′ : List Token} → Tokens p ts → Tokens p ts′ → ts ≡ ts′
 tokens-one {p} {ts} {ts′} x y = let a : parse p ≡ Parsed.tokens ts = parse-complete x in let b : parse p ≡ Parsed.tokens ts′ = parse-complete y in cc
 
 pub pointer-one : {p : Bytes} {ts ts′ : List Token} → Pointer p ts → Pointer p ts′ → ts ≡ ts′
@@ -348,7 +348,7 @@ unfolding checkPointer
 pointer-checked p = checked-within (within maxPointer p)
 
 -- Never both, and at one place only.
-pub malformed-not : {p : Bytes} {ts : List Token} {n : ℕ} → Pointer p ts → Malformed p n → ⊥
+malformed-not : {p : Bytes} {ts : List Token} {n : ℕ} → Pointer p ts → Malformed p n → ⊥
 malformed-not {ts = ts} x (Malformed.malformed f l) = f ts x
 
 pub malformed-one : {p : Bytes} {m n : ℕ} → Malformed p m → Malformed p n → m ≡ n

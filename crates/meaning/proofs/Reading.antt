@@ -129,7 +129,7 @@ apart-member ns k t ps h f j a =
 mutual
   unfolding tree at
 
-  pub value-keeps : {d : ℕ} {i o : Source} {v : Node} → Value house d i o v → Keeps d (tree v)
+  value-keeps : {d : ℕ} {i o : Source} {v : Node} → Value house d i o v → Keeps d (tree v)
   value-keeps (rule.value-space w x) = value-keeps x
   value-keeps (rule.null w) = Keeps.literal
   value-keeps (rule.true w) = Keeps.literal

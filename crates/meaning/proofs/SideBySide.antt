@@ -61,12 +61,12 @@ plain-means m (Tree.object ps) e = absurd (true≢false e)
 mutual
   unfolding mean set old
 
-  pub merged-means : {t p r : Tree} → Merged t p r → mean r ≡ mergeMeaning (mean t) (mean p)
+  merged-means : {t p r : Tree} → Merged t p r → mean r ≡ mergeMeaning (mean t) (mean p)
   merged-means {t} {p} (Merged.plain e) = plain-means (mean t) p e
   merged-means {t} (Merged.object {qs = qs} s) =
       ap Meaning.object (fun-ext (λ k. side-means s k ∙ ap (λ o. set o (at qs k)) (members-mean t k))) ∙ sym (merge-object (mean t) (λ k. at qs k))
 
-  pub side-means : {ps qs rs : Pairs} → Side ps qs rs → (j : Units) → at rs j ≡ set (at ps j) (at qs j)
+  side-means : {ps qs rs : Pairs} → Side ps qs rs → (j : Units) → at rs j ≡ set (at ps j) (at qs j)
   side-means Side.end j = refl
   side-means (Side.keep {k} {t} {ps} {qs} {rs} a b s) j = by (which j k) (side-means s j)
     where
@@ -117,7 +117,7 @@ members-sorted (Sorted.array x) = SortedPairs.empty
 members-sorted (Sorted.object x) = x
 
 mutual
-  pub merged-sorted : {t p r : Tree} → Merged t p r → Sorted t → Sorted p → Sorted r
+  merged-sorted : {t p r : Tree} → Merged t p r → Sorted t → Sorted p → Sorted r
   merged-sorted (Merged.plain e) x y = y
   merged-sorted (Merged.object s) x (Sorted.object y) = Sorted.object (side-sorted s (members-sorted x) y)
 

@@ -46,7 +46,7 @@ swap i j s t ps k n = by (which k i) (which k j)
         at-other i s (Pairs.pair j t ps) k p ∙ at-other j t ps k q ∙ sym (at-other i s ps k p) ∙ sym (at-other j t (Pairs.pair i s ps) k q)
 
 -- A new member means the same wherever it is put.
-pub at-insert : (j : Units) (t : Tree) (ps : Pairs) (k : Units) → at ps j ≡ Maybe.none → at (insert j t ps) k ≡ at (Pairs.pair j t ps) k
+at-insert : (j : Units) (t : Tree) (ps : Pairs) (k : Units) → at ps j ≡ Maybe.none → at (insert j t ps) k ≡ at (Pairs.pair j t ps) k
 unfolding insert
 at-insert j t Pairs.empty k f = refl
 at-insert j t (Pairs.pair i s ps) k f = by (before j i) refl (at-insert j t ps k (fresh-rest i s ps j f))
@@ -71,7 +71,7 @@ mutual
   means-canon KeepsAll.nil = refl
   means-canon (KeepsAll.cons o os) = ap₂ Meanings.cons (mean-canon o) (means-canon os)
 
-  pub at-canon : {d : ℕ} {ps : Pairs} → KeepsPairs d ps → (k : Units) → at (canonPairs ps) k ≡ at ps k
+  at-canon : {d : ℕ} {ps : Pairs} → KeepsPairs d ps → (k : Units) → at (canonPairs ps) k ≡ at ps k
   at-canon KeepsPairs.empty k = refl
   at-canon (KeepsPairs.pair {k = j} {t = t} {ps = ps} u f o os) k =
       at-insert j (canon t) (canonPairs ps) k (at-canon os j ∙ f) ∙ at-under j (canon t) t (canonPairs ps) ps k (mean-canon o) (at-canon os k)
@@ -103,7 +103,7 @@ mutual
   keeps-canonAll KeepsAll.nil = KeepsAll.nil
   keeps-canonAll (KeepsAll.cons o os) = KeepsAll.cons (keeps-canon o) (keeps-canonAll os)
 
-  pub keeps-canonPairs : {d : ℕ} {ps : Pairs} → KeepsPairs d ps → KeepsPairs d (canonPairs ps)
+  keeps-canonPairs : {d : ℕ} {ps : Pairs} → KeepsPairs d ps → KeepsPairs d (canonPairs ps)
   keeps-canonPairs KeepsPairs.empty = KeepsPairs.empty
   keeps-canonPairs (KeepsPairs.pair {k = j} u f o os) = keeps-insert u (at-canon os j ∙ f) (keeps-canon o) (keeps-canonPairs os)
 
@@ -145,7 +145,7 @@ mutual
   sorted-canonAll KeepsAll.nil = SortedAll.nil
   sorted-canonAll (KeepsAll.cons o os) = SortedAll.cons (sorted-canon o) (sorted-canonAll os)
 
-  pub sorted-canonPairs : {d : ℕ} {ps : Pairs} → KeepsPairs d ps → SortedPairs (canonPairs ps)
+  sorted-canonPairs : {d : ℕ} {ps : Pairs} → KeepsPairs d ps → SortedPairs (canonPairs ps)
   sorted-canonPairs KeepsPairs.empty = SortedPairs.empty
   sorted-canonPairs (KeepsPairs.pair {k = j} u f o os) = sorted-insert j (at-canon os j ∙ f) (sorted-canon o) (sorted-canonPairs os)
 
