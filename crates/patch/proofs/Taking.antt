@@ -19,6 +19,14 @@ use mathlib.Core.Bool.{Bool, false, true, true≢false}
 use mathlib.Core.List.{[], _++_}
 use mathlib.Core.Path.{_∙_, _≡_, refl, subst⁻¹, sym}
 
+-- A member that the patch sets: its value's merge behind its name.
+pub record Sets (t p : Bytes) (w u : Words) (d x y z m : ℕ) (e : Bytes) : Type 0 where
+  pub text : Bytes
+  pub merges : Merges t p w u d (oldOf z x) y text
+  pub whole : key m (nameOf p u y) ++ text ≡ e
+  pub short : length p ≤ maxText
+  pub named : Named p u y
+
 module _ {t p : Bytes} {w u : Words} {d x y z m : ℕ} where
   -- The target's member stays.
   pub keep-asks : {on : Bool} {e o : Bytes} → z ≡ 0 → Takes t p w u d x y z m e → Fits on e o
@@ -48,30 +56,26 @@ module _ {t p : Bytes} {w u : Words} {d x y z m : ℕ} where
       null-gives on o f (Takes.set {v = v} _ a i s z r e) = absurd (true≢false (sym f ∙ g d v s ∙ z))
 
       -- Anything else is merged, behind its name.
-      set-by : {e : Bytes} → b ≡ false → Takes t p w u d x y z m e → (c : Bytes) × Merges t p w u d (oldOf z x) y c × (key m (nameOf p u y) ++ c ≡ e)
-      set-by f (Takes.keep i _ s e) = absurd (n i)
-      set-by f (Takes.skip {v = v} _ s z e) = absurd (true≢false (sym z ∙ sym (g d v s) ∙ f))
-      set-by f (Takes.set {r = r} _ a i s z k e) = (put r [], Merges.merges i s k refl, e)
+      pub sets : {e : Bytes} → b ≡ false → Takes t p w u d x y z m e → Sets t p w u d x y z m e
+      sets f (Takes.keep i _ s e) = absurd (n i)
+      sets f (Takes.skip {v = v} _ s z e) = absurd (true≢false (sym z ∙ sym (g d v s) ∙ f))
+      sets f (Takes.set {r = r} _ a i s z k e) = record { text = put r []; merges = Merges.merges i s k refl; whole = e; short = stands-short s; named = a }
 
-      pub name-there : {e : Bytes} → b ≡ false → Takes t p w u d x y z m e → (length p ≤ maxText) × Named p u y
-      name-there f (Takes.keep i _ s e) = absurd (n i)
-      name-there f (Takes.skip {v = v} _ s z e) = absurd (true≢false (sym z ∙ sym (g d v s) ∙ f))
-      name-there f (Takes.set _ a i s z k e) = (stands-short s, a)
+  module _ {on : Bool} {e o : Bytes} (s : Sets t p w u d x y z m e) where
+    pub name-fits : Fits on e o → Fits on (key m (nameOf p u y)) o
+    name-fits f = fits-first (key m (nameOf p u y)) (s .text) (subst⁻¹ (λ e. Fits on e o) (s .whole) f)
 
-      module _ {on : Bool} {e o : Bytes} (f : b ≡ false) (a : Takes t p w u d x y z m e) where
-        pub name-fits : Fits on e o → Fits on (key m (nameOf p u y)) o
-        name-fits h = let (c, _, i) = set-by f a in fits-first (key m (nameOf p u y)) c (subst⁻¹ (λ e. Fits on e o) i h)
+    -- The value behind the name that was written, merged with record `r` of the target.
+    module _ (h : on ≡ true → length (key m (nameOf p u y)) ≤ length o) {o₁ : Bytes} {l k r : ℕ} (q : Emits on (key m (nameOf p u y)) o l o₁) (i : k ≡ restAt on l) (j : r ≡ oldOf z x) where
+      pub value-start : k ≤ length o₁
+      value-start = rest-start q h i
 
-        -- The value behind the name that was written, merged with record `r` of the target.
-        module _ (h : on ≡ true → length (key m (nameOf p u y)) ≤ length o) {o₁ : Bytes} {l k r : ℕ} (q : Emits on (key m (nameOf p u y)) o l o₁) (i : k ≡ restAt on l) (j : r ≡ oldOf z x) where
-          pub value-start : k ≤ length o₁
-          value-start = rest-start q h i
+      merges-old : Merges t p w u d r y (s .text)
+      merges-old = subst⁻¹ (λ r. Merges t p w u d r y (s .text)) j (s .merges)
 
-          pub value-asks : Fits on e o → (c : Bytes) × Merges t p w u d r y c × Fits on c (rest k o₁)
-          value-asks v =
-              let (c, y′, s) = set-by f a in
-              (c, subst⁻¹ (λ r. Merges t p w u d r y c) j y′, rest-fits q h i c (subst⁻¹ (λ e. Fits on e o) s v))
+      pub value-asks : Fits on e o → (c : Bytes) × Merges t p w u d r y c × Fits on c (rest k o₁)
+      value-asks f = (s .text, merges-old, rest-fits q h i (s .text) (subst⁻¹ (λ e. Fits on e o) (s .whole) f))
 
-          pub value-gives : {v : ℕ} {ys : Bytes} → ((c : Bytes) → Merges t p w u d r y c → Emits on c (rest k o₁) v ys)
-              → Emits on e o (l + v) (take k o₁ ++ (ys ++ drop (length o₁ - k) (drop k o₁)))
-          value-gives y′ = let (c, v, s) = set-by f a in emit-as s (emit-both q h i (y′ c (subst⁻¹ (λ r. Merges t p w u d r y c) j v)))
+      pub value-gives : {v : ℕ} {ys : Bytes} → ((c : Bytes) → Merges t p w u d r y c → Emits on c (rest k o₁) v ys)
+          → Emits on e o (l + v) (take k o₁ ++ (ys ++ drop (length o₁ - k) (drop k o₁)))
+      value-gives f = emit-as (s .whole) (emit-both q h i (f (s .text) merges-old))

@@ -1,9 +1,9 @@
 -- By the number of containers that may still open: a value calls on its members one level deeper, each member on its value.
-use Prim.Native.Nat.{_*_, _+_, _-_}
+use Prim.Native.Nat.{_*_, _+_, _-_, _<_, ℕ}
 use Rattle.patch.proofs.Emitting.{emit-length}
 use Rattle.patch.proofs.Going.{at-room, end-fits, first-named, going-end, going-next, going-rest, going-start, going-turn, next-few, next-fits, both-empty, onward-same, takes-same}
 use Rattle.patch.proofs.Opening.{new-small, new-stands, object, old-small, old-value, opens-depth, opens-sides, opens-stands, plain-asks, plain-gives}
-use Rattle.patch.proofs.Taking.{keep-asks, keep-gives, name-fits, name-there, null-gives, patch-stands, value-asks, value-gives, value-start}
+use Rattle.patch.proofs.Taking.{keep-asks, keep-gives, name-fits, null-gives, patch-stands, sets, value-asks, value-gives, value-start}
 use Rattle.patch.specs.Walks.{Going, Sides}
 use Rattle.reader.specs.Tokens.{brace}
 use Rattle.text.specs.Bytes.{Bytes}
@@ -14,7 +14,6 @@ use borrow.Author.Needs.{needs}
 use lib.ListN.{length}
 use mathlib.Core.Path.{_∙_, _≡_, ap, refl}
 use native.Mathlib.Omega.{arith}
-use Prim.Native.Nat.{ℕ, _<_}
 use borrow.Fn.Kinds.{In}
 use borrow.Fn.PlainCycle.{Measures, is, falls, and}
 use Rattle.patch.proofs.walk.merge_member.Reads as merge-member
@@ -131,8 +130,8 @@ merge-member-emit-key-requires t c κs =
     let at-if1 = at-is-null .before .before in
     let start = at-if1 .before .before .before .before .before .before in
     let (d, (e, x, f)) = start .pre .1 in
-    let (l, n) = name-there (at-if1 .if1 .left) (at-is-null .is-null .ensures) (at-if2 .if2 .left) x in
-    (l, n, name-fits (at-if1 .if1 .left) (at-is-null .is-null .ensures) (at-if2 .if2 .left) x f)
+    let s = sets (at-if1 .if1 .left) (at-is-null .is-null .ensures) (at-if2 .if2 .left) x in
+    (s .short, s .named, name-fits s f)
 
 merge-member-old-of-requires : (t : ℕ) → merge-member-lts.Need-old-of-requires (merge-member-claims t) (merge-member-at t) merge-member.Post
 merge-member-old-of-requires t c κs = search needs
@@ -150,7 +149,8 @@ merge-member-sub-merge-value t c =
     let at-if1 = at-is-null .before .before in
     let start = at-if1 .before .before .before .before .before .before in
     let (d, (e, x, f)) = start .pre .1 in
-    value-start (at-if1 .if1 .left) (at-is-null .is-null .ensures) (at-if2 .if2 .left) x (name-fits (at-if1 .if1 .left) (at-is-null .is-null .ensures) (at-if2 .if2 .left) x f .room) (at-emit-key .emit-key .ensures) (at-rest-at .rest-at .ensures) (at-old-of .old-of .ensures)
+    let s = sets (at-if1 .if1 .left) (at-is-null .is-null .ensures) (at-if2 .if2 .left) x in
+    value-start s (name-fits s f .room) (at-emit-key .emit-key .ensures) (at-rest-at .rest-at .ensures) (at-old-of .old-of .ensures)
 
 merge-member-part-merge-value-start : (t : ℕ) → merge-member-lts.Need-part-merge-value-start (merge-member-claims t) (merge-member-at t) merge-member.Post
 merge-member-part-merge-value-start t c = merge-member-sub-merge-value t c
@@ -168,7 +168,8 @@ merge-member-merge-value-requires t c κs =
     let at-if1 = at-is-null .before .before in
     let start = at-if1 .before .before .before .before .before .before in
     let (d, (e, x, f)) = start .pre .1 in
-    (omega (arith, start .pre .0), (d, value-asks (at-if1 .if1 .left) (at-is-null .is-null .ensures) (at-if2 .if2 .left) x (name-fits (at-if1 .if1 .left) (at-is-null .is-null .ensures) (at-if2 .if2 .left) x f .room) (at-emit-key .emit-key .ensures) (at-rest-at .rest-at .ensures) (at-old-of .old-of .ensures) f))
+    let s = sets (at-if1 .if1 .left) (at-is-null .is-null .ensures) (at-if2 .if2 .left) x in
+    (omega (arith, start .pre .0), (d, value-asks s (name-fits s f .room) (at-emit-key .emit-key .ensures) (at-rest-at .rest-at .ensures) (at-old-of .old-of .ensures) f))
 
 merge-member-add-result : (t : ℕ) → merge-member-lts.Need-add-result (merge-member-claims t) (merge-member-at t) merge-member.Post
 merge-member-add-result t c =
@@ -181,7 +182,8 @@ merge-member-add-result t c =
     let at-if1 = at-is-null .before .before in
     let start = at-if1 .before .before .before .before .before .before in
     let (d, (e, x, f)) = start .pre .1 in
-    omega (arith, f .few, (value-gives (at-if1 .if1 .left) (at-is-null .is-null .ensures) (at-if2 .if2 .left) x (name-fits (at-if1 .if1 .left) (at-is-null .is-null .ensures) (at-if2 .if2 .left) x f .room) (at-emit-key .emit-key .ensures) (at-rest-at .rest-at .ensures) (at-old-of .old-of .ensures) (at-merge-value .merge-value .ensures .0)) .count)
+    let s = sets (at-if1 .if1 .left) (at-is-null .is-null .ensures) (at-if2 .if2 .left) x in
+    omega (arith, f .few, (value-gives s (name-fits s f .room) (at-emit-key .emit-key .ensures) (at-rest-at .rest-at .ensures) (at-old-of .old-of .ensures) (at-merge-value .merge-value .ensures .0)) .count)
 
 merge-member-same-length-4 : (t : ℕ) → merge-member-lts.Need-same-length-4 (merge-member-claims t) (merge-member-at t) merge-member.Post
 merge-member-same-length-4 t c = ap length (c .before .before .before .before .before .before .merge-value .ensures .1 .0)
@@ -200,7 +202,8 @@ merge-member-same-length-6 t c =
     let at-if1 = at-is-null .before .before in
     let start = at-if1 .before .before .before .before .before .before in
     let (d, (e, x, f)) = start .pre .1 in
-    emit-length (value-gives (at-if1 .if1 .left) (at-is-null .is-null .ensures) (at-if2 .if2 .left) x (name-fits (at-if1 .if1 .left) (at-is-null .is-null .ensures) (at-if2 .if2 .left) x f .room) (at-emit-key .emit-key .ensures) (at-rest-at .rest-at .ensures) (at-old-of .old-of .ensures) (at-merge-value .merge-value .ensures .0)) (f .room)
+    let s = sets (at-if1 .if1 .left) (at-is-null .is-null .ensures) (at-if2 .if2 .left) x in
+    emit-length (value-gives s (name-fits s f .room) (at-emit-key .emit-key .ensures) (at-rest-at .rest-at .ensures) (at-old-of .old-of .ensures) (at-merge-value .merge-value .ensures .0)) (f .room)
 
 merge-member-returns-3 : (t : ℕ) → merge-member-lts.Need-returns-3 (merge-member-claims t) (merge-member-at t) merge-member.Post
 merge-member-returns-3 t c =
@@ -213,7 +216,8 @@ merge-member-returns-3 t c =
     let at-if1 = at-is-null .before .before in
     let start = at-if1 .before .before .before .before .before .before in
     let (d, (e, x, f)) = start .pre .1 in
-    ((λ z y. value-gives (at-if1 .if1 .left) (at-is-null .is-null .ensures) (at-if2 .if2 .left) y (name-fits (at-if1 .if1 .left) (at-is-null .is-null .ensures) (at-if2 .if2 .left) x f .room) (at-emit-key .emit-key .ensures) (at-rest-at .rest-at .ensures) (at-old-of .old-of .ensures) (at-merge-value .merge-value .ensures .0)), at-merge-value .merge-value .ensures .1)
+    let s = sets (at-if1 .if1 .left) (at-is-null .is-null .ensures) (at-if2 .if2 .left) x in
+    ((λ z y. value-gives (sets (at-if1 .if1 .left) (at-is-null .is-null .ensures) (at-if2 .if2 .left) y) (name-fits s f .room) (at-emit-key .emit-key .ensures) (at-rest-at .rest-at .ensures) (at-old-of .old-of .ensures) (at-merge-value .merge-value .ensures .0)), at-merge-value .merge-value .ensures .1)
 
 abbrev merge-members-Inv-loop : merge-members-lts.InvT-loop
 merge-members-Inv-loop target olds₀ a m patch news₀ b n depth on out₀ at₀ x₀ i₀ y₀ j₀ olds news out at x i y j =
