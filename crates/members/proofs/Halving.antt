@@ -13,10 +13,10 @@ use Rattle.members.specs.Records.{nextOf}
 use Rattle.text.specs.Bytes.{Bytes}
 use Rattle.text.specs.Table.{Words}
 use borrow.Author.Tests.{ltb-true}
-use mathlib.Core.Bool.{Bool, false, not, true}
+use mathlib.Core.Bool.{Bool, Bool·not-not, not}
 use mathlib.Core.List.{[], _++_, _∷_}
 use mathlib.Core.Logic.{⊎-elim}
-use mathlib.Core.Path.{_∙_, _≡_, ap, refl, sym}
+use mathlib.Core.Path.{_∙_, _≡_, ap, sym}
 use native.Mathlib.Omega.{arith}
 
 -- One record.
@@ -34,14 +34,8 @@ module _ (f : ℕ → ℕ) (first : ℕ) where
   some-in zero h = absurd (omega arith)
   some-in (suc n) h = In.here
 
-not-not : (b : Bool) → not (not b) ≡ b
-not-not true = refl
-not-not false = refl
-
 pub halved : (n : ℕ) → 1 ≤ n → (n ≡ 1 → ⊥) → 2 ≤ n
-halved zero p h = absurd (omega arith)
-halved (suc zero) p h = absurd (h refl)
-halved (suc (suc n)) p h = omega arith
+halved n p h = omega arith
 
 module _ {t : Bytes} {w : Words} (up : Bool) (first n m : ℕ) (fits : m ≤ n) (free : Free t w (siblingsOf w n first)) where
   middle : ℕ
@@ -118,7 +112,7 @@ module _ {t : Bytes} {w : Words} (up : Bool) (first n m : ℕ) (fits : m ≤ n) 
         chained =
             rw (split, ← whole) record {
               same = record { to = λ k i. within k (g .same .to k i); back = λ k i. g .same .back k (without k i) };
-              sorted = rw (← name₂, ← not-not up) (g .sorted);
+              sorted = rw (← name₂, ← Bool·not-not up) (g .sorted);
               frame =
                   frame-trans (frame-more (λ k i. in-left _ i) (p .frame))
                   (frame-trans (frame-more (λ k i. in-right (siblingsOf w m first) i) frame₂) (frame-more within (g .frame)));

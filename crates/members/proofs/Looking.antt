@@ -2,7 +2,6 @@
 use Prim.Native.Nat.{_*_, _<_, _≤_, ℕ}
 use Rattle.members.proofs.Lineage.{siblings-onward, siblings-shut, siblings-unique}
 use Rattle.members.proofs.Membership.{in-cases, in-none}
-use Rattle.members.proofs.Ordering.{clash}
 use Rattle.members.specs.Lists.{In}
 use Rattle.members.specs.Names.{Named, nameOf}
 use Rattle.members.specs.Records.{nextOf, word}
@@ -12,7 +11,7 @@ use Rattle.members.specs.Siblings.{Siblings}
 use Rattle.text.specs.Bytes.{Bytes, Units}
 use Rattle.text.specs.Table.{Words, recordWords}
 use lib.ListN.{length}
-use mathlib.Core.Bool.{Bool, false, true}
+use mathlib.Core.Bool.{Bool, false, false≢true, true, true≢false}
 use mathlib.Core.List.{List, [], _∷_}
 use mathlib.Core.Logic.{⊎-elim}
 use mathlib.Core.Path.{_∙_, _≡_, ap, sym}
@@ -20,10 +19,10 @@ use native.Mathlib.Omega.{arith}
 
 module _ {name : ℕ → Units} {r : ℕ} where
   seen-none : Seen name [] r false
-  seen-none = record { yes = λ e. absurd (clash e); no = λ e x i. absurd (in-none i) }
+  seen-none = record { yes = λ e. absurd (false≢true e); no = λ e x i. absurd (in-none i) }
 
   seen-here : {p : ℕ} (l : List ℕ) → name p ≡ name r → Seen name (p ∷ l) r true
-  seen-here {p} l h = record { yes = λ e. (p, In.here, h); no = λ e. absurd (clash (sym e)) }
+  seen-here {p} l h = record { yes = λ e. (p, In.here, h); no = λ e. absurd (true≢false e) }
 
   seen-there : {p : ℕ} {l : List ℕ} {z : Bool} → (name p ≡ name r → ⊥) → Seen name l r z → Seen name (p ∷ l) r z
   seen-there n s =

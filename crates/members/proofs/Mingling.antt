@@ -5,7 +5,7 @@ use Rattle.members.proofs.Sorting.{sorted-head, sorted-tail}
 use Rattle.members.specs.Lists.{In, Sorted}
 use mathlib.Core.Bool.{Bool, true}
 use mathlib.Core.List.{List, _∷_}
-use mathlib.Core.Logic.{_⊎_, inl, inr, ⊎-elim}
+use mathlib.Core.Logic.{_⊎_, inl, inr, ⊎-elim, ⊎-swap}
 use mathlib.Core.Path.{_≡_}
 
 -- `d` is done and descends, `x` and `y` are left, and all stand in `l`.
@@ -18,9 +18,6 @@ pub record Mingling (lt : ℕ → ℕ → Bool) (l d x y : List ℕ) : Type 0 wh
   pub only : (v : ℕ) → In v d ⊎ (In v x ⊎ In v y) → In v l
   pub all : (v : ℕ) → In v l → In v d ⊎ (In v x ⊎ In v y)
 
-swap : {A B : Type 0} → A ⊎ B → B ⊎ A
-swap = ⊎-elim (λ a. inr a) (λ b. inl b)
-
 module _ {lt : ℕ → ℕ → Bool} {l d x y : List ℕ} where
   pub mingle-swap : Mingling lt l d x y → Mingling lt l d y x
   mingle-swap m =
@@ -28,10 +25,10 @@ module _ {lt : ℕ → ℕ → Bool} {l d x y : List ℕ} where
         down = m .down;
         left = m .right;
         right = m .left;
-        ahead = λ p q i j. m .ahead p q i (swap j);
+        ahead = λ p q i j. m .ahead p q i (⊎-swap j);
         apart = λ v i j. m .apart v j i;
-        only = λ v. ⊎-elim (λ i. m .only v (inl i)) (λ j. m .only v (inr (swap j)));
-        all = λ v i. ⊎-elim (λ k. inl k) (λ k. inr (swap k)) (m .all v i);
+        only = λ v. ⊎-elim (λ i. m .only v (inl i)) (λ j. m .only v (inr (⊎-swap j)));
+        all = λ v i. ⊎-elim (λ k. inl k) (λ k. inr (⊎-swap k)) (m .all v i);
       }
 
   -- The head of the first list comes before all of the second: it is taken.

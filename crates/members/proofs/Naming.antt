@@ -1,25 +1,24 @@
 -- Names and their first bytes.
 use Prim.Native.Char.{code}
-use Prim.Native.Nat.{_+_, _<_, suc, ℕ}
-use Rattle.members.proofs.Ordering.{clash}
+use Prim.Native.Nat.{_<_, suc, ℕ}
 use Rattle.members.specs.Names.{Onward}
+use Rattle.names.proofs.Reading.{units-plain}
 use Rattle.names.specs.Units.{units}
-use Rattle.text.specs.Bytes.{Bytes, Units}
+use Rattle.text.specs.Bytes.{Bytes}
 use borrow.Author.Tests.{eqb-false, eqb-true, ne-eqb, not-true}
 use lib.Dec.{eqb}
 use lib.ListN.{drop, getD, length}
 use lib.Seq.{drop-cons}
-use mathlib.Core.Bool.{Bool, _&&_, cond, false, not, true}
-use mathlib.Core.List.{[], _∷_}
-use mathlib.Core.Path.{_∙_, _≡_, ap, refl, sym}
-use native.Mathlib.Numerals.{add-one}
+use mathlib.Core.Bool.{Bool, _&&_, cond, false, false≢true, not, true}
+use mathlib.Core.List.{[], _∷_, tail-eq-of-cons-eq}
+use mathlib.Core.Path.{_∙_, _≡_, refl, sym}
 use native.Mathlib.Omega.{arith}
 
 -- Three tests at once.
 all-three : (a b c : Bool) → a && b && c ≡ true → (a ≡ true) × (b ≡ true) × (c ≡ true)
 all-three true true c e = (refl, refl, e)
-all-three true false c e = absurd (clash e)
-all-three false b c e = absurd (clash e)
+all-three true false c e = absurd (false≢true e)
+all-three false b c e = absurd (false≢true e)
 
 -- Names whose first bytes differ differ, if neither byte is a backslash.
 module _ (x y : ℕ) (s t : Bytes) (n : x ≡ y → ⊥) (p : x ≡ code "\\" → ⊥) (q : y ≡ code "\\" → ⊥) where
@@ -46,21 +45,13 @@ names-differ t i j h k e =
     (first-differ x y (drop (suc i) t) (drop (suc j) t) (eqb-false _ _ (not-true _ (three .0))) (eqb-false _ _ (not-true _ (three .1))) (eqb-false _ _ (not-true _ (three .2))))
 
 -- Names that begin with the same plain byte differ if the rest of them does.
-plain-first : (x : ℕ) (s : Bytes) → eqb x (code "\"") ≡ false → eqb x (code "\\") ≡ false → units (x ∷ s) ≡ x ∷ units s
-unfolding units
-plain-first x s q b = rw (q, b)
-
-rest-same : {x y : ℕ} {xs ys : Units} → _≡_ {A = Units} (x ∷ xs) (y ∷ ys) → xs ≡ ys
-rest-same e = cc
-
 pub begin-alike : (t : Bytes) (i j : ℕ) → i < length t → j < length t
     → (eqb (getD t i 0) (getD t j 0) && not (eqb (getD t i 0) (code "\""))) && not (eqb (getD t i 0) (code "\\")) ≡ true → Onward t i j
 begin-alike t i j h k e f z =
     let x = getD t i 0 in
     let three = all-three (eqb x (getD t j 0)) (not (eqb x (code "\""))) (not (eqb x (code "\\"))) e in
     let same : getD t j 0 ≡ x = sym (eqb-true x (getD t j 0) (three .0)) in
-    let quote : eqb x (code "\"") ≡ false = not-true _ (three .1) in
-    let slash : eqb x (code "\\") ≡ false = not-true _ (three .2) in
-    let a : units (drop i t) ≡ x ∷ units (drop (i + 1) t) = ap units (drop-cons t i 0 h) ∙ plain-first x (drop (suc i) t) quote slash ∙ ap (λ n. x ∷ units (drop n t)) (sym (add-one i)) in
-    let b : units (drop j t) ≡ x ∷ units (drop (j + 1) t) = ap units (drop-cons t j 0 k ∙ ap (λ y. y ∷ drop (suc j) t) same) ∙ plain-first x (drop (suc j) t) quote slash ∙ ap (λ n. x ∷ units (drop n t)) (sym (add-one j)) in
-    f (rest-same (sym a ∙ z ∙ b))
+    let quote : x ≡ code "\"" → ⊥ = eqb-false _ _ (not-true _ (three .1)) in
+    let slash : x ≡ code "\\" → ⊥ = eqb-false _ _ (not-true _ (three .2)) in
+    let b = units-plain t j k (λ p. quote (sym same ∙ p)) (λ p. slash (sym same ∙ p)) in
+    f (tail-eq-of-cons-eq (sym (units-plain t i h quote slash) ∙ z ∙ b))

@@ -1,5 +1,5 @@
 -- Records are in a strict total order: by name, and among equal names by number.
-use Prim.Native.Nat.{_+_, _<_, _≤_, suc, zero, ℕ}
+use Prim.Native.Nat.{_+_, _<_, suc, zero, ℕ}
 use Rattle.members.proofs.Sorting.{Transitive}
 use Rattle.members.specs.Names.{ahead, before}
 use Rattle.names.proofs.Order.{order-equal, order-flip, order-refl, order-trans}
@@ -7,20 +7,10 @@ use Rattle.names.specs.Order.{order}
 use Rattle.text.specs.Bytes.{Units}
 use borrow.Author.Tests.{eq-eqb, eqb-false, eqb-true, lt-ltb, ltb-false, ltb-true, ne-eqb}
 use lib.Dec.{eqb, ltb}
-use mathlib.Core.Bool.{Bool, cond, false, true}
+use mathlib.Core.Bool.{Bool, false, false≢true, true}
 use mathlib.Core.Logic.{_⊎_, inl, inr, ⊎-elim}
-use mathlib.Core.Path.{_∙_, _≡_, ap, refl, sym}
+use mathlib.Core.Path.{_∙_, _≡_, refl, sym}
 use native.Mathlib.Omega.{arith}
-
-pub clash : false ≡ true → ⊥
-clash e = let z : _≡_ {A = ℕ} 0 1 = ap (λ (b : Bool). cond b 1 0) e in omega arith
-
-less-by : (x y : ℕ) → x ≤ y → (x ≡ y → ⊥) → x < y
-less-by x y h n = below (ltb x y) refl
-  where
-    below : (b : Bool) → ltb x y ≡ b → x < y
-    below true e = ltb-true x y e
-    below false e = absurd (n (omega (arith, ltb-false x y e)))
 
 -- What a test for equal names says.
 module _ (a b : Units) (z : Bool) (e : z ≡ eqb (order a b) 1) where
@@ -88,7 +78,7 @@ module _ (name : ℕ → Units) (a b : ℕ) where
       elim stand [
         | first e ↦ inl e
         | same e ↦ inr (order-equal _ _ e, ltb-true a b (sym (before-same e) ∙ h))
-        | last e ↦ absurd (clash (sym (before-last e) ∙ h))
+        | last e ↦ absurd (false≢true (sym (before-last e) ∙ h))
       ]
 
   -- Of two records with one name the lesser comes first.
@@ -118,10 +108,10 @@ module _ (name : ℕ → Units) where
   pub before-total : (a b : ℕ) → before name a b ≡ false → (a ≡ b → ⊥) → before name b a ≡ true
   before-total a b h n =
       elim (stand name a b) [
-        | first e ↦ absurd (clash (sym h ∙ before-first name a b e))
+        | first e ↦ absurd (false≢true (sym h ∙ before-first name a b e))
         | same e ↦
             let y = ltb-false a b (sym (before-same name a b e) ∙ h) in
-            before-same name b a (omega (arith, e, order-flip (name a) (name b))) ∙ lt-ltb b a (less-by b a y (λ f. n (sym f)))
+            before-same name b a (omega (arith, e, order-flip (name a) (name b))) ∙ lt-ltb b a (omega arith)
         | last e ↦ before-first name b a (omega (arith, e, order-flip (name a) (name b)))
       ]
 

@@ -1,5 +1,5 @@
 -- An order and the same turned round.
-use Prim.Native.Nat.{_+_, _<_, suc, zero, ℕ}
+use Prim.Native.Nat.{_+_, _<_, ℕ}
 use Rattle.members.proofs.Ordering.{before-strict, before-total, before-trans}
 use Rattle.members.proofs.Sorting.{Transitive}
 use Rattle.members.specs.Merging.{Picked, turned}
@@ -31,10 +31,6 @@ module _ (name : ℕ → Units) where
   turned-total true a b h n = before-total name a b h n
   turned-total false a b h n = before-total name b a h (λ e. n (sym e))
 
-pub positive : (n : ℕ) → (n ≡ 0 → ⊥) → 0 < n
-positive zero h = absurd (h refl)
-positive (suc n) h = omega arith
-
 -- The chain that goes on.
 module _ (lt : ℕ → ℕ → Bool) (x i y j : ℕ) where
   pub picked-second : 0 < i + j → i ≡ 0 → Picked lt x i y j false
@@ -43,12 +39,12 @@ module _ (lt : ℕ → ℕ → Bool) (x i y j : ℕ) where
 
   pub picked-first : (i ≡ 0 → ⊥) → j ≡ 0 → Picked lt x i y j true
   unfolding Picked
-  picked-first h e = (positive i h, λ p. absurd (omega arith))
+  picked-first h e = (omega arith, λ p. absurd (omega arith))
 
   pub picked-lesser : (i ≡ 0 → ⊥) → (j ≡ 0 → ⊥) → (z : Bool) → z ≡ lt x y → Picked lt x i y j z
   unfolding Picked
-  picked-lesser h k true e = (positive i h, λ p. sym e)
-  picked-lesser h k false e = (positive j k, λ p. sym e)
+  picked-lesser h k true e = (omega arith, λ p. sym e)
+  picked-lesser h k false e = (omega arith, λ p. sym e)
 
   pub first-picked : (z : Bool) → Picked lt x i y j z → z ≡ true → (0 < i) × (0 < j → lt x y ≡ true)
   unfolding Picked

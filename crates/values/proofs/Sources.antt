@@ -11,7 +11,7 @@ use Rattle.text.specs.Strings.{Chars, Escape, Word}
 use lib.ListN.{drop, getD, length, length-drop}
 use lib.Seq.{drop-cons}
 use mathlib.Core.Bool.{Bool}
-use mathlib.Core.List.{List, _∷_}
+use mathlib.Core.List.{List, _∷_, head-eq-of-cons-eq, tail-eq-of-cons-eq}
 use mathlib.Core.Path.{_∙_, _≡_, ap, sym}
 use native.Mathlib.Omega.{arith}
 
@@ -22,22 +22,16 @@ pub data At (t : Bytes) : Source → Type 0 where
 pub at-drop : {t i : Bytes} {p : ℕ} → At t (from p i) → i ≡ drop p t
 at-drop (At.at e) = e
 
-un-head : {a b : ℕ} {x y : Bytes} → a ∷ x ≡ b ∷ y → a ≡ b
-un-head e = cc
-
-un-tail : {a b : ℕ} {x y : Bytes} → a ∷ x ≡ b ∷ y → x ≡ y
-un-tail e = cc
-
 -- A byte of a source.
 module _ (t : Bytes) {p b : ℕ} {i : Bytes} (x : At t (from p (b ∷ i))) where
   pub at-inside : p < length t
   at-inside = omega (arith, ap length (at-drop x), length-drop p t)
 
   pub at-byte : getD t p 0 ≡ b
-  at-byte = sym (un-head (at-drop x ∙ drop-cons t p 0 at-inside))
+  at-byte = sym (head-eq-of-cons-eq (at-drop x ∙ drop-cons t p 0 at-inside))
 
   pub at-next : At t (from (suc p) i)
-  at-next = At.at (un-tail (at-drop x ∙ drop-cons t p 0 at-inside))
+  at-next = At.at (tail-eq-of-cons-eq (at-drop x ∙ drop-cons t p 0 at-inside))
 
 module _ (t : Bytes) where
   pub word-at : {ks : Bytes} {i o : Source} → Word ks i o → At t i → At t o

@@ -1,5 +1,5 @@
-use Rattle.members.proofs.Ordering.{clash}
 use borrow.Author.Tests.{not-false}
+use mathlib.Core.Bool.{false≢true}
 use native.Mathlib.Omega.{arith}
 use borrow.Author.Needs.{needs}
 use Rattle.members.proofs.name.differ_at_once.Statement.{statement}
@@ -27,7 +27,7 @@ begin-alike-requires c κs = search needs
 
 -- src/name.rt:63:9
 returns-2 : tie.Need-returns-2
-returns-2 c = λ e. absurd (clash e)
+returns-2 c = λ e. absurd (false≢true e)
 
 -- src/name.rt:65:23
 add-differ-here : tie.Need-add-differ-here

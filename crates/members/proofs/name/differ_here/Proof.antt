@@ -1,5 +1,5 @@
 use Rattle.members.proofs.Naming.{names-differ}
-use Rattle.members.proofs.Ordering.{clash}
+use mathlib.Core.Bool.{false≢true}
 use native.Mathlib.Omega.{arith}
 use borrow.Author.Needs.{needs}
 use Rattle.members.proofs.name.differ_here.Statement.{statement}
@@ -7,11 +7,11 @@ use Rattle.members.proofs.name.differ_here.Tie as tie
 
 -- src/name.rt:28:9
 returns : tie.Need-returns
-returns c = λ e. absurd (clash e)
+returns c = λ e. absurd (false≢true e)
 
 -- src/name.rt:31:9
 returns-2 : tie.Need-returns-2
-returns-2 c = λ e. absurd (clash e)
+returns-2 c = λ e. absurd (false≢true e)
 
 -- src/name.rt:33:13
 shared-slice-read-x : tie.Need-shared-slice-read-x
