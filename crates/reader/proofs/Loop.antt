@@ -1,11 +1,12 @@
 -- Each arm of the reader's loop keeps what it keeps, or stops as it must.
 use Prim.Native.Char.{code}
 use Prim.Native.Nat.{ℕ, suc, _*_, _+_, _-_, _<_, _≤_}
+use Rattle.members.proofs.Membership.{in-none}
 use Rattle.members.specs.Lists.{In}
 use Rattle.names.specs.Units.{closing}
 use Rattle.reader.proofs.Behind.{after-short, all-read, closes, comma, dueIn, joined, value-short, wrong-inside, wrong-outside}
 use Rattle.reader.proofs.Laying.{element, fresh-array, fresh-object, join, laid-framed, laid-on, named-value, open-frame, put-value, said-on}
-use Rattle.reader.proofs.Repeated.{first-append, in-none, rising-again, rising-on}
+use Rattle.reader.proofs.Repeated.{first-append, rising-again, rising-on}
 use Rattle.reader.specs.Loop.{After, Broken, Closable, ClosedAt, Entering, Inside, Kept, Laid, Said, Stopped, Wants, answer, strict}
 use Rattle.reader.specs.Repeats.{Least, Rising, again, before, between, closed, firstOr}
 use Rattle.reader.specs.Stacks.{Marked, Named, begun, kind, nameOf, openOf, shutAt, words}

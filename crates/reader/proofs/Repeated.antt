@@ -1,5 +1,6 @@
 -- The lists of repeated names: how they are put together as containers open and close, and what their least is good for.
 use Prim.Native.Nat.{ℕ, suc, _<_, _≤_}
+use Rattle.members.proofs.Membership.{in-either, in-left, in-none, in-right}
 use Rattle.members.specs.Lists.{In}
 use Rattle.names.specs.Units.{closing}
 use Rattle.reader.specs.Repeats.{Least, Lesser, Rising, again, before, between, closed, deeper, firstOr, insideAll, insideMembers, own, repeats, repeatsAll, repeatsMembers}
@@ -16,27 +17,6 @@ use mathlib.Core.Logic.{_⊎_, inl, inr}
 use mathlib.Core.Path.{_∙_, _≡_, ap, refl, subst⁻¹, sym}
 use native.Mathlib.Omega.{arith}
 
--- What is in a list put together from two.
-pub in-left : {x : ℕ} (l m : List ℕ) → In x l → In x (l ++ m)
-in-left (y ∷ l) m In.here = In.here
-in-left (y ∷ l) m (In.there p) = In.there (in-left l m p)
-
-pub in-right : {x : ℕ} (l m : List ℕ) → In x m → In x (l ++ m)
-in-right [] m p = p
-in-right (y ∷ l) m p = In.there (in-right l m p)
-
-pub in-either : {x : ℕ} (l m : List ℕ) → In x (l ++ m) → In x l ⊎ In x m
-in-either [] m p = inr p
-in-either (y ∷ l) m In.here = inl In.here
-in-either (y ∷ l) m (In.there p) = by (in-either l m p)
-  where
-    by : {x y : ℕ} {l m : List ℕ} → In x l ⊎ In x m → In x (y ∷ l) ⊎ In x m
-    by (inl q) = inl (In.there q)
-    by (inr q) = inr q
-
-pub in-none : {x : ℕ} → In x [] → ⊥
-in-none = elim [ ]
-
 -- Names in rising order stay so with a later one behind them.
 pub rising-below : {es : List ℕ} {b x : ℕ} → Rising es b → In x es → x < b
 rising-below (Rising.more h f r) In.here = h
@@ -48,7 +28,7 @@ rising-on {c = c} l (Rising.more {q = q} h f r) = Rising.more {q = q} {b = c} (o
 
 rising-one : {es : List ℕ} {b c q : ℕ} → Rising es b → b ≤ q → q < c → Rising (es ++ (q ∷ [])) c
 rising-one Rising.none h l = Rising.more l (λ x i. absurd (in-none i)) Rising.none
-rising-one {b = b} {c = c} {q = q} (Rising.more {q = p} {qs = qs} k f r) h l = Rising.more {q = p} {b = c} (omega arith) (λ x i. by x (in-either qs (q ∷ []) i)) (rising-one r h l)
+rising-one {b = b} {c = c} {q = q} (Rising.more {q = p} {qs = qs} k f r) h l = Rising.more {q = p} {b = c} (omega arith) (λ x i. by x (in-either qs i)) (rising-one r h l)
   where
     by : (x : ℕ) → In x qs ⊎ In x (q ∷ []) → p < x
     by x (inl i) = f x i
@@ -124,52 +104,52 @@ object-repeats p e ms = repeats-members ms Members.empty ∙ append-nil (insideM
 -- The names that repeat others in an object are its own and those deeper.
 inside-split : {x : ℕ} (ms : Members) → In x (insideMembers ms) → In x (deeper ms) ⊎ In x (own ms)
 unfolding insideMembers deeper own
-inside-split (Members.member q us v ms) i = by (λ j. inside-split ms j) (in-either (insideMembers ms) (again us (namesOf ms) q ++ repeats v) i)
+inside-split (Members.member q us v ms) i = by (λ j. inside-split ms j) (in-either (insideMembers ms) i)
   where
     own-or : {x : ℕ} → In x (again us (namesOf ms) q) ⊎ In x (repeats v) → In x (deeper ms ++ repeats v) ⊎ In x (own ms ++ again us (namesOf ms) q)
-    own-or (inl j) = inr (in-right (own ms) (again us (namesOf ms) q) j)
-    own-or (inr j) = inl (in-right (deeper ms) (repeats v) j)
+    own-or (inl j) = inr (in-right (own ms) j)
+    own-or (inr j) = inl (in-right (deeper ms) j)
 
     further : {x : ℕ} → In x (deeper ms) ⊎ In x (own ms) → In x (deeper ms ++ repeats v) ⊎ In x (own ms ++ again us (namesOf ms) q)
-    further (inl j) = inl (in-left (deeper ms) (repeats v) j)
-    further (inr j) = inr (in-left (own ms) (again us (namesOf ms) q) j)
+    further (inl j) = inl (in-left (repeats v) j)
+    further (inr j) = inr (in-left (again us (namesOf ms) q) j)
 
     by : {x : ℕ} → (In x (insideMembers ms) → In x (deeper ms) ⊎ In x (own ms)) → In x (insideMembers ms) ⊎ In x (again us (namesOf ms) q ++ repeats v)
         → In x (deeper ms ++ repeats v) ⊎ In x (own ms ++ again us (namesOf ms) q)
     by f (inl j) = further (f j)
-    by f (inr j) = own-or (in-either (again us (namesOf ms) q) (repeats v) j)
+    by f (inr j) = own-or (in-either (again us (namesOf ms) q) j)
 
 deeper-inside : {x : ℕ} (ms : Members) → In x (deeper ms) → In x (insideMembers ms)
 unfolding insideMembers deeper
-deeper-inside (Members.member q us v ms) i = by (λ j. deeper-inside ms j) (in-either (deeper ms) (repeats v) i)
+deeper-inside (Members.member q us v ms) i = by (λ j. deeper-inside ms j) (in-either (deeper ms) i)
   where
     by : {x : ℕ} → (In x (deeper ms) → In x (insideMembers ms)) → In x (deeper ms) ⊎ In x (repeats v) → In x (insideMembers ms ++ (again us (namesOf ms) q ++ repeats v))
-    by f (inl j) = in-left (insideMembers ms) (again us (namesOf ms) q ++ repeats v) (f j)
-    by f (inr j) = in-right (insideMembers ms) (again us (namesOf ms) q ++ repeats v) (in-right (again us (namesOf ms) q) (repeats v) j)
+    by f (inl j) = in-left (again us (namesOf ms) q ++ repeats v) (f j)
+    by f (inr j) = in-right (insideMembers ms) (in-right (again us (namesOf ms) q) j)
 
 own-inside : {x : ℕ} (ms : Members) → In x (own ms) → In x (insideMembers ms)
 unfolding insideMembers own
-own-inside (Members.member q us v ms) i = by (λ j. own-inside ms j) (in-either (own ms) (again us (namesOf ms) q) i)
+own-inside (Members.member q us v ms) i = by (λ j. own-inside ms j) (in-either (own ms) i)
   where
     by : {x : ℕ} → (In x (own ms) → In x (insideMembers ms)) → In x (own ms) ⊎ In x (again us (namesOf ms) q) → In x (insideMembers ms ++ (again us (namesOf ms) q ++ repeats v))
-    by f (inl j) = in-left (insideMembers ms) (again us (namesOf ms) q ++ repeats v) (f j)
-    by f (inr j) = in-right (insideMembers ms) (again us (namesOf ms) q ++ repeats v) (in-left (again us (namesOf ms) q) (repeats v) j)
+    by f (inl j) = in-left (again us (namesOf ms) q ++ repeats v) (f j)
+    by f (inr j) = in-right (insideMembers ms) (in-left (repeats v) j)
 
 -- So the least of all is the lesser of the least among the closed ones and the least of the object's own.
 pub object-least : (l : List ℕ) (ms : Members) {a b c : ℕ} → Lesser a b c → Least (l ++ deeper ms) a → Least (own ms) b → Least (l ++ insideMembers ms) c
-object-least l ms z p q = least-both (l ++ insideMembers ms) z p q (λ x i. split (in-either l (insideMembers ms) i)) (λ x i. both (in-either l (deeper ms) i)) (λ x i. in-right l (insideMembers ms) (own-inside ms i))
+object-least l ms z p q = least-both (l ++ insideMembers ms) z p q (λ x i. split (in-either l i)) (λ x i. both (in-either l i)) (λ x i. in-right l (own-inside ms i))
   where
     further : {x : ℕ} → In x (deeper ms) ⊎ In x (own ms) → In x (l ++ deeper ms) ⊎ In x (own ms)
-    further (inl j) = inl (in-right l (deeper ms) j)
+    further (inl j) = inl (in-right l j)
     further (inr j) = inr j
 
     split : {x : ℕ} → In x l ⊎ In x (insideMembers ms) → In x (l ++ deeper ms) ⊎ In x (own ms)
-    split (inl j) = inl (in-left l (deeper ms) j)
+    split (inl j) = inl (in-left (deeper ms) j)
     split (inr j) = further (inside-split ms j)
 
     both : {x : ℕ} → In x l ⊎ In x (deeper ms) → In x (l ++ insideMembers ms)
-    both (inl j) = in-left l (insideMembers ms) j
-    both (inr j) = in-right l (insideMembers ms) (deeper-inside ms j)
+    both (inl j) = in-left (insideMembers ms) j
+    both (inr j) = in-right l (deeper-inside ms j)
 
 -- A value that is read joins those before it.
 pub array-joins : (a : ℕ) (vs : Nodes) (st : Stack) (v : Node) → before (Frame.array a vs ∷ st) ++ repeats v ≡ between (Frame.array a (Nodes.cons v vs) ∷ st)

@@ -2,6 +2,7 @@
 -- object's own that repeat others.
 use Prim.Native.Nat.{ℕ, _*_, _+_, _<_, _≤_}
 use Rattle.entries.specs.Answer.{maxText}
+use Rattle.members.proofs.Membership.{in-either, in-left, in-none, in-right}
 use Rattle.members.specs.Lists.{In}
 use Rattle.members.specs.Names.{nameAt}
 use Rattle.members.specs.Records.{word}
@@ -9,7 +10,6 @@ use Rattle.members.specs.Repeats.{FirstRepeat}
 use Rattle.members.specs.Rows.{Row, named}
 use Rattle.members.specs.Siblings.{Siblings}
 use Rattle.reader.proofs.Records.{backMembers-length, word-behind}
-use Rattle.reader.proofs.Repeated.{in-either, in-left, in-none, in-right}
 use Rattle.reader.specs.Repeats.{Least, again, own}
 use Rattle.reader.specs.Stacks.{Spelt, backMembers}
 use Rattle.text.proofs.Machine.{namesOf}
@@ -70,7 +70,7 @@ in-named w (In.there i) = In.there (in-named w i)
 -- Quotes stand before the bound of their members.
 quotes-below : {t : Bytes} {ms : Members} {b x : ℕ} → Spelt t ms b → In x (quotes ms) → x < b
 unfolding quotes
-quotes-below (Spelt.member {q = q} {b = b} {ms = ms} c _ _ s) i = by (λ j. quotes-below s j) (in-either (quotes ms) (q ∷ []) i)
+quotes-below (Spelt.member {q = q} {b = b} {ms = ms} c _ _ s) i = by (λ j. quotes-below s j) (in-either (quotes ms) i)
   where
     by : {x : ℕ} → (In x (quotes ms) → x < q) → In x (quotes ms) ⊎ In x (q ∷ []) → x < b
     by f (inl j) = omega (arith, f j, c .before)
@@ -91,7 +91,7 @@ module _ {t : Bytes} {w : Words} {q : ℕ} {v : Node} {ms : Members} {k : ℕ} (
   r = k + sizeMembers ms
 
   last-or : {z : ℕ} → In z (x .list ++ (r ∷ [])) → In z (x .list) ⊎ (z ≡ r)
-  last-or i = by (in-either (x .list) (r ∷ []) i)
+  last-or i = by (in-either (x .list) i)
     where
       by : {z : ℕ} {l : List ℕ} {r : ℕ} → In z l ⊎ In z (r ∷ []) → In z l ⊎ (z ≡ r)
       by (inl j) = inl j
@@ -171,14 +171,14 @@ unfolding among namesOf quotes
 among-quote {t} us (Spelt.member {q = q} {us = vs} {ms = ms} c _ _ s) p = either (same us vs) (among us (namesOf ms)) here (λ z. later (among-quote us s z)) p
   where
     here : T (same us vs) → (y : ℕ) × In y (quotes ms ++ (q ∷ [])) × (nameAt t y ≡ us)
-    here z = (q, in-right (quotes ms) (q ∷ []) In.here, c .means ∙ sym (same-is us vs (true-is (same us vs) z)))
+    here z = (q, in-right (quotes ms) In.here, c .means ∙ sym (same-is us vs (true-is (same us vs) z)))
 
     later : (y : ℕ) × In y (quotes ms) × (nameAt t y ≡ us) → (y : ℕ) × In y (quotes ms ++ (q ∷ [])) × (nameAt t y ≡ us)
-    later (y, i, e) = (y, in-left (quotes ms) (q ∷ []) i, e)
+    later (y, i, e) = (y, in-left (q ∷ []) i, e)
 
 quote-among : {t : Bytes} {ms : Members} {b y : ℕ} (us : Units) → Spelt t ms b → In y (quotes ms) → nameAt t y ≡ us → T (among us (namesOf ms))
 unfolding namesOf quotes
-quote-among {t} us (Spelt.member {q = q} {us = vs} {ms = ms} c _ _ s) i e = by (λ j. quote-among us s j e) (in-either (quotes ms) (q ∷ []) i) e
+quote-among {t} us (Spelt.member {q = q} {us = vs} {ms = ms} c _ _ s) i e = by (λ j. quote-among us s j e) (in-either (quotes ms) i) e
   where
     by : {y : ℕ} → (In y (quotes ms) → T (among us (namesOf ms))) → In y (quotes ms) ⊎ In y (q ∷ []) → nameAt t y ≡ us → T (among us (vs ∷ namesOf ms))
     by f (inl j) g = among-later us vs (namesOf ms) (f j)
@@ -204,15 +204,15 @@ Twice t ms x = In x (quotes ms) × ((y : ℕ) × In y (quotes ms) × (y < x) × 
 
 own-twice : {t : Bytes} {ms : Members} {b x : ℕ} → Spelt t ms b → In x (own ms) → Twice t ms x
 unfolding own quotes
-own-twice {t} (Spelt.member {q = q} {us = us} {v = v} {ms = ms} c _ _ s) i = by (λ j. own-twice s j) (in-either (own ms) (again us (namesOf ms) q) i)
+own-twice {t} (Spelt.member {q = q} {us = us} {v = v} {ms = ms} c _ _ s) i = by (λ j. own-twice s j) (in-either (own ms) i)
   where
     wider : {x : ℕ} → Twice t ms x → Twice t (Members.member q us v ms) x
-    wider (i, (y, j, l, e)) = (in-left (quotes ms) (q ∷ []) i, (y, in-left (quotes ms) (q ∷ []) j, l, e))
+    wider (i, (y, j, l, e)) = (in-left (q ∷ []) i, (y, in-left (q ∷ []) j, l, e))
 
     last : (x : ℕ) → x ≡ q → T (among us (namesOf ms)) → Twice t (Members.member q us v ms) x
     last x e p =
         let (y, i, f) = among-quote us s p in
-        subst⁻¹ (Twice t (Members.member q us v ms)) e (in-right (quotes ms) (q ∷ []) In.here, (y, in-left (quotes ms) (q ∷ []) i, quotes-below s i, f ∙ sym (c .means)))
+        subst⁻¹ (Twice t (Members.member q us v ms)) e (in-right (quotes ms) In.here, (y, in-left (q ∷ []) i, quotes-below s i, f ∙ sym (c .means)))
 
     by : {x : ℕ} → (In x (own ms) → Twice t ms x) → In x (own ms) ⊎ In x (again us (namesOf ms) q) → Twice t (Members.member q us v ms) x
     by f (inl j) = wider (f j)
@@ -220,13 +220,13 @@ own-twice {t} (Spelt.member {q = q} {us = us} {v = v} {ms = ms} c _ _ s) i = by 
 
 twice-own : {t : Bytes} {ms : Members} {b x y : ℕ} → Spelt t ms b → In x (quotes ms) → In y (quotes ms) → y < x → nameAt t y ≡ nameAt t x → In x (own ms)
 unfolding own quotes
-twice-own {t} (Spelt.member {q = q} {us = us} {ms = ms} c _ _ s) i j l e = by (λ i j. twice-own s i j l e) l e (in-either (quotes ms) (q ∷ []) i) (in-either (quotes ms) (q ∷ []) j)
+twice-own {t} (Spelt.member {q = q} {us = us} {ms = ms} c _ _ s) i j l e = by (λ i j. twice-own s i j l e) l e (in-either (quotes ms) i) (in-either (quotes ms) j)
   where
     by : {x y : ℕ} → (In x (quotes ms) → In y (quotes ms) → In x (own ms)) → y < x → nameAt t y ≡ nameAt t x → In x (quotes ms) ⊎ In x (q ∷ []) → In y (quotes ms) ⊎ In y (q ∷ []) → In x (own ms ++ again us (namesOf ms) q)
-    by f l e (inl i) (inl j) = in-left (own ms) (again us (namesOf ms) q) (f i j)
+    by f l e (inl i) (inl j) = in-left (again us (namesOf ms) q) (f i j)
     by f l e (inl i) (inr In.here) = absurd (omega (arith, l, quotes-below s i))
     by f l e (inl i) (inr (In.there j)) = absurd (in-none j)
-    by f l e (inr In.here) (inl j) = in-right (own ms) (again us (namesOf ms) q) (in-again us (namesOf ms) q (quote-among us s j (e ∙ c .means)))
+    by f l e (inr In.here) (inl j) = in-right (own ms) (in-again us (namesOf ms) q (quote-among us s j (e ∙ c .means)))
     by f l e (inr In.here) (inr In.here) = absurd (omega (arith, l))
     by f l e (inr In.here) (inr (In.there j)) = absurd (in-none j)
     by f l e (inr (In.there i)) j = absurd (in-none i)
