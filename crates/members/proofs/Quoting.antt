@@ -36,7 +36,7 @@ owner-of (r ∷ l) i =
     (λ k. let o = owner-of l k in record { owner = o .owner; member = In.there (o .member); at = o .at })
     (in-cases i)
 
-quote-in : (w : Words) {r : ℕ} {l : List ℕ} → In r l → In (word w r 2) (named w l)
+pub quote-in : (w : Words) {r : ℕ} {l : List ℕ} → In r l → In (word w r 2) (named w l)
 unfolding named
 quote-in w In.here = In.here
 quote-in w (In.there i) = In.there (quote-in w i)

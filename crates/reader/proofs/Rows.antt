@@ -2,7 +2,9 @@
 -- object's own that repeat others.
 use Prim.Native.Nat.{ℕ, _*_, _+_, _<_, _≤_}
 use Rattle.entries.specs.Answer.{maxText}
-use Rattle.members.proofs.Membership.{in-either, in-left, in-none, in-right}
+use Rattle.members.proofs.Lineage.{siblings-append, siblings-between}
+use Rattle.members.proofs.Membership.{in-either, in-left, in-none, in-right, in-single}
+use Rattle.members.proofs.Quoting.{quote-in}
 use Rattle.members.specs.Lists.{In}
 use Rattle.members.specs.Names.{nameAt}
 use Rattle.members.specs.Records.{word}
@@ -25,7 +27,7 @@ use lib.Dec.{T}
 use lib.ListN.{length, length-append}
 use mathlib.Core.Bool.{Bool, cond, false, true}
 use mathlib.Core.List.{List, [], _++_, _∷_, append-assoc}
-use mathlib.Core.Logic.{_⊎_, inl, inr}
+use mathlib.Core.Logic.{_⊎_, inl, inr, ⊎-elim, ⊎-map}
 use mathlib.Core.Path.{_∙_, _≡_, ap, refl, subst, subst⁻¹, sym}
 use native.Mathlib.Omega.{arith}
 
@@ -52,36 +54,20 @@ stands pre post v q r h =
       next = word-behind pre (start v ∷ end v ∷ q ∷ []) (l ++ post) (r + size v) r 3 h refl;
     })
 
--- One record more at the end of siblings.
-siblings-more : {w : Words} {r e k : ℕ} {l : List ℕ} → Siblings w r k l → r < word w r 3 → word w r 3 ≡ e → Siblings w e k (l ++ (r ∷ []))
-siblings-more {w} {r} {e} Siblings.none h g = Siblings.more h (subst⁻¹ (λ x. Siblings w e x []) g Siblings.none)
-siblings-more (Siblings.more k s) h g = Siblings.more k (siblings-more s h g)
-
 named-append : (w : Words) (l m : List ℕ) → named w (l ++ m) ≡ named w l ++ named w m
 unfolding named
 named-append w [] m = refl
 named-append w (x ∷ l) m = ap (λ n. word w x 2 ∷ n) (named-append w l m)
 
-in-named : (w : Words) {x : ℕ} {l : List ℕ} → In x l → In (word w x 2) (named w l)
-unfolding named
-in-named w In.here = In.here
-in-named w (In.there i) = In.there (in-named w i)
-
 -- Quotes stand before the bound of their members.
 quotes-below : {t : Bytes} {ms : Members} {b x : ℕ} → Spelt t ms b → In x (quotes ms) → x < b
 unfolding quotes
-quotes-below (Spelt.member {q = q} {b = b} {ms = ms} c _ _ s) i = by (λ j. quotes-below s j) (in-either (quotes ms) i)
-  where
-    by : {x : ℕ} → (In x (quotes ms) → x < q) → In x (quotes ms) ⊎ In x (q ∷ []) → x < b
-    by f (inl j) = omega (arith, f j, c .before)
-    by f (inr In.here) = c .before
-    by f (inr (In.there j)) = absurd (in-none j)
+quotes-below (Spelt.member {ms = ms} c _ _ s) i = ⊎-elim (λ j. omega (arith, quotes-below s j, c .before)) (λ j. omega (arith, in-single j, c .before)) (in-either (quotes ms) i)
 
 -- The records of members whose words begin at record `k`.
 pub record Kin (t : Bytes) (w : Words) (ms : Members) (k : ℕ) : Type 0 where
   pub list : List ℕ
   pub chain : Siblings w (k + sizeMembers ms) k list
-  pub below : (x : ℕ) → In x list → x < k + sizeMembers ms
   pub small : (x : ℕ) → In x list → (word w x 0 ≤ length t) × (word w x 1 ≤ length t) × (word w x 2 < length t)
   pub rising : (x y : ℕ) → In x list → In y list → x < y → word w x 2 < word w y 2
   pub quoted : named w list ≡ quotes ms
@@ -91,32 +77,22 @@ module _ {t : Bytes} {w : Words} {q : ℕ} {v : Node} {ms : Members} {k : ℕ} (
   r = k + sizeMembers ms
 
   last-or : {z : ℕ} → In z (x .list ++ (r ∷ [])) → In z (x .list) ⊎ (z ≡ r)
-  last-or i = by (in-either (x .list) i)
-    where
-      by : {z : ℕ} {l : List ℕ} {r : ℕ} → In z l ⊎ In z (r ∷ []) → In z l ⊎ (z ≡ r)
-      by (inl j) = inl j
-      by (inr In.here) = inr refl
-      by (inr (In.there j)) = absurd (in-none j)
+  last-or i = ⊎-map (λ j. j) in-single (in-either (x .list) i)
 
   before-last : (z : ℕ) → In z (x .list) → word w z 2 < word w r 2
-  before-last z i = omega (arith, y .name, quotes-below s (subst (In (word w z 2)) (x .quoted) (in-named w i)))
+  before-last z i = omega (arith, y .name, quotes-below s (subst (In (word w z 2)) (x .quoted) (quote-in w i)))
 
   kin-more : (us : Units) → 1 ≤ size v → start v ≤ length t → end v ≤ length t → q < length t → Kin t w (Members.member q us v ms) k
   unfolding size quotes named
   kin-more us o c d e =
       record {
         list = x .list ++ (r ∷ []);
-        chain = siblings-more (x .chain) (omega (arith, y .next)) (y .next ∙ omega arith);
-        below = λ z i. below-by z (last-or i);
+        chain = siblings-append (x .chain) (Siblings.more (omega (arith, y .next)) (subst⁻¹ (λ z. Siblings w (k + (size v + sizeMembers ms)) z []) (y .next ∙ omega arith) Siblings.none));
         small = λ z i. small-by z (last-or i);
         rising = λ z z′ i j l. rising-by z z′ (last-or i) (last-or j) l;
         quoted = named-append w (x .list) (r ∷ []) ∙ ap (λ l. l ++ (word w r 2 ∷ [])) (x .quoted) ∙ ap (λ n. quotes ms ++ (n ∷ [])) (y .name);
       }
     where
-      below-by : (z : ℕ) → In z (x .list) ⊎ (z ≡ r) → z < k + (size v + sizeMembers ms)
-      below-by z (inl i) = omega (arith, x .below z i)
-      below-by z (inr f) = omega arith
-
       small-by : (z : ℕ) → In z (x .list) ⊎ (z ≡ r) → (word w z 0 ≤ length t) × (word w z 1 ≤ length t) × (word w z 2 < length t)
       small-by z (inl i) = x .small z i
       small-by z (inr f) = subst⁻¹ (λ z. (word w z 0 ≤ length t) × (word w z 1 ≤ length t) × (word w z 2 < length t)) f (omega (arith, y .first), omega (arith, y .last), omega (arith, y .name))
@@ -124,7 +100,7 @@ module _ {t : Bytes} {w : Words} {q : ℕ} {v : Node} {ms : Members} {k : ℕ} (
       rising-by : (z z′ : ℕ) → In z (x .list) ⊎ (z ≡ r) → In z′ (x .list) ⊎ (z′ ≡ r) → z < z′ → word w z 2 < word w z′ 2
       rising-by z z′ (inl i) (inl j) l = x .rising z z′ i j l
       rising-by z z′ (inl i) (inr f) l = subst⁻¹ (λ n. word w z 2 < word w n 2) f (before-last z i)
-      rising-by z z′ (inr f) (inl j) l = absurd (omega (arith, x .below z′ j))
+      rising-by z z′ (inr f) (inl j) l = absurd (omega (arith, siblings-between (x .chain) j .1))
       rising-by z z′ (inr f) (inr g) l = absurd (omega arith)
 
 pub kin : (t pre post : Words) (ms : Members) (k b : ℕ) → length pre ≡ 4 * k → Spelt t ms b → Kin t (pre ++ (backMembers ms k ++ post)) ms k
@@ -133,7 +109,6 @@ kin t pre post Members.empty k b h s =
     record {
       list = [];
       chain = subst⁻¹ (λ e. Siblings (pre ++ post) e k []) (let z : k + 0 ≡ k = omega arith in z) Siblings.none;
-      below = λ x i. absurd (in-none i);
       small = λ x i. absurd (in-none i);
       rising = λ x y i. absurd (in-none i);
       quoted = refl;
