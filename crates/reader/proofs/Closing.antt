@@ -6,10 +6,9 @@ use Rattle.members.specs.Repeats.{FirstRepeat}
 use Rattle.members.specs.Rows.{Row, named}
 use Rattle.members.specs.Siblings.{Siblings}
 use Rattle.reader.proofs.Laying.{opened-record, shut, shut-words}
-use Rattle.reader.proofs.Records.{held, opens}
+use Rattle.reader.proofs.Records.{held, opens, words-length}
 use Rattle.reader.proofs.Repeated.{array-repeats, object-least, object-repeats}
 use Rattle.reader.proofs.Rows.{Kin, kin, own-least, row, row-repeat}
-use Rattle.reader.proofs.Records.{words-length}
 use Rattle.reader.specs.Loop.{After, Closable, ClosedAt, Inside, Said}
 use Rattle.reader.specs.Repeats.{Least, Lesser, closed}
 use Rattle.reader.specs.Tokens.{brace}

@@ -4,16 +4,14 @@ use Rattle.entries.specs.Answer.{maxText}
 use Rattle.reader.proofs.Behind.{joined}
 use Rattle.reader.proofs.Laying.{join, laid-framed, put-value}
 use Rattle.reader.proofs.Loop.{after-stop}
+use Rattle.reader.proofs.Tokens.{flat-literal}
 use Rattle.reader.specs.Loop.{After, Closable, ClosedAt, Inside, Pended, Settled, Stopped}
-use Rattle.reader.specs.Repeats.{repeats}
 use Rattle.reader.specs.Stacks.{Marked, Named, kind, nameOf, shutAt}
-use Rattle.reader.specs.Tokens.{Flat}
 use Rattle.text.proofs.Machine.{Frame, Stack, depthOf}
-use Rattle.text.proofs.Offsets.{end, start}
 use Rattle.text.specs.Bytes.{Bytes}
 use Rattle.text.specs.Ceilings.{maxDepth}
 use Rattle.text.specs.Node.{Literal, Node}
-use Rattle.text.specs.Table.{Words, records, size, unnamed}
+use Rattle.text.specs.Table.{Words, unnamed}
 use lib.ListN.{getD, length}
 use mathlib.Core.List.{List, _∷_}
 use mathlib.Core.Path.{_∙_, _≡_, ap, refl, subst, subst⁻¹}
@@ -22,10 +20,6 @@ use native.Mathlib.Omega.{arith}
 -- What stands for a value that never came.
 abbrev missing : Node
 missing = Node.literal 0 0 Literal.null
-
-missing-flat : Flat missing 0 0
-unfolding size records repeats start end
-missing-flat = record { one = refl; words = λ m k. refl; none = refl; starts = refl; ends = refl }
 
 stay : {t : Bytes} {w tab m : Words} {k p n op first d : ℕ} (n′ : ℕ) (tab′ : Words) → (n′ ≡ n) × (tab′ ≡ tab) → Stopped t w tab m k p n unnamed op first d → Stopped t w tab′ m k p n′ unnamed op first d
 stay {t} {w} {m = m} {k} {p} {n} {op} {first} {d} n′ tab′ (f, g) s = subst⁻¹ (λ n. Stopped t w tab′ m k p n unnamed op first d) f (subst⁻¹ (λ tab. Stopped t w tab m k p n unnamed op first d) g s)
@@ -36,7 +30,7 @@ module _ {t : Bytes} {w tab m : Words} {k p n nm op first d : ℕ} where
   pended n′ tab′ (Stopped.named a ms us st es i b f q) x =
       let (e, g) = x .some f in
       let y : After t w tab′ m (Frame.object a ms nm us ∷ st) missing es d i (n + 1) op first =
-      put-value tab′ missing 0 0 i nm q missing-flat refl (omega arith) (omega arith) (omega arith) (q .room f) (q .laid .bound) g in
+      put-value tab′ missing 0 0 i nm q (flat-literal 0 0 Literal.null) refl (omega arith) (omega arith) (omega arith) (q .room f) (q .laid .bound) g in
       subst⁻¹ (λ n. Stopped t w tab′ m k p n unnamed op first d) e (Stopped.inside (joined (Frame.object a ms nm us) missing) st es i b refl (join (Frame.object a ms nm us) st missing y))
   pended n′ tab′ (Stopped.read c e h v es r) x = stay n′ tab′ (x .none e) (Stopped.read c refl h v es r)
   pended n′ tab′ (Stopped.outside es b e h c f l) x = stay n′ tab′ (x .none e) (Stopped.outside es b refl h c f l)

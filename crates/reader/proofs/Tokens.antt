@@ -41,7 +41,7 @@ refused-number t s i e = let r = run-range (subst (Run shut s i (drop i t)) (ap 
 
 -- Values without values inside them.
 module _ (i j : ℕ) where
-  flat-literal : (w : Literal) → Flat (Node.literal i j w) i j
+  pub flat-literal : (w : Literal) → Flat (Node.literal i j w) i j
   unfolding size records repeats start end
   flat-literal w = record { one = refl; words = λ m k. refl; none = refl; starts = refl; ends = refl }
 
