@@ -146,11 +146,11 @@ join {t} {w} {tab} {m} (Frame.object a ms x us) st v {es} {d} {i} {n} {op} {firs
     let l = q .laid in
     let (o, c, s, y) = q .names in
     record {
-      laid = subst (λ ws. Laid t w tab m (Frame.object a (Members.member x us v ms) x us ∷ st) ws d i n op) (words-object-joins a x x us us ms st v)
+      laid = subst (λ ws. Laid t w tab m (Frame.object a (Members.member x us v ms) x us ∷ st) ws d i n op) (words-object-joins a x us ms st v)
           (record { deep = l .deep; low = l .low; marks = l .marks; marked = l .marked; bound = l .bound; few = l .few; full = l .full; filled = l .filled; opened = l .opened });
-      count = q .count ∙ begun-object-joins a x x us us ms st v;
-      repeated = q .repeated ∙ object-joins a x x us us ms st v;
-      least = subst (λ l. Least l first) (object-closed a x x us us ms st v) (q .least);
+      count = q .count ∙ begun-object-joins a x us ms st v;
+      repeated = q .repeated ∙ object-joins a x us ms st v;
+      least = subst (λ l. Least l first) (object-closed a x us ms st v) (q .least);
       names = (o, Spelt.member c (q .small .0) (q .small .1) s, y);
     }
 

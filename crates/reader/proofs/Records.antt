@@ -50,10 +50,10 @@ words-array-joins a vs st v =
     let e : begun st + suc (sizeAll vs) ≡ suc (begun st) + sizeAll vs = omega arith in
     rw e (simp append-assoc)
 
-pub words-object-joins : (a q x : ℕ) (us xs : Units) (ms : Members) (st : Stack) (v : Node)
-    → words (Frame.object a ms q us ∷ st) ++ records v q (begun (Frame.object a ms q us ∷ st)) ≡ words (Frame.object a (Members.member q us v ms) x xs ∷ st)
+pub words-object-joins : (a q : ℕ) (us : Units) (ms : Members) (st : Stack) (v : Node)
+    → words (Frame.object a ms q us ∷ st) ++ records v q (begun (Frame.object a ms q us ∷ st)) ≡ words (Frame.object a (Members.member q us v ms) q us ∷ st)
 unfolding words begun backMembers
-words-object-joins a q x us xs ms st v =
+words-object-joins a q us ms st v =
     let e : begun st + suc (sizeMembers ms) ≡ suc (begun st) + sizeMembers ms = omega arith in
     rw e (simp append-assoc)
 
@@ -61,9 +61,9 @@ pub begun-array-joins : (a : ℕ) (vs : Nodes) (st : Stack) (v : Node) → begun
 unfolding begun size
 begun-array-joins a vs st v = omega arith
 
-pub begun-object-joins : (a q x : ℕ) (us xs : Units) (ms : Members) (st : Stack) (v : Node) → begun (Frame.object a ms q us ∷ st) + size v ≡ begun (Frame.object a (Members.member q us v ms) x xs ∷ st)
+pub begun-object-joins : (a q : ℕ) (us : Units) (ms : Members) (st : Stack) (v : Node) → begun (Frame.object a ms q us ∷ st) + size v ≡ begun (Frame.object a (Members.member q us v ms) q us ∷ st)
 unfolding begun size
-begun-object-joins a q x us xs ms st v = omega arith
+begun-object-joins a q us ms st v = omega arith
 
 -- What is kept last first, put in order.
 nodes-size : (vs l : Nodes) → sizeAll (ontoNodes vs l) ≡ sizeAll vs + sizeAll l

@@ -156,14 +156,14 @@ pub array-joins : (a : ℕ) (vs : Nodes) (st : Stack) (v : Node) → before (Fra
 unfolding before insideAll
 array-joins a vs st v = append-assoc (before st) (insideAll vs) (repeats v)
 
-pub object-joins : (a q x : ℕ) (us xs : Units) (ms : Members) (st : Stack) (v : Node) → before (Frame.object a ms q us ∷ st) ++ repeats v ≡ between (Frame.object a (Members.member q us v ms) x xs ∷ st)
+pub object-joins : (a q : ℕ) (us : Units) (ms : Members) (st : Stack) (v : Node) → before (Frame.object a ms q us ∷ st) ++ repeats v ≡ between (Frame.object a (Members.member q us v ms) q us ∷ st)
 unfolding before insideMembers
-object-joins a q x us xs ms st v = simp append-assoc
+object-joins a q us ms st v = simp append-assoc
 
 pub array-closed : (a : ℕ) (vs : Nodes) (st : Stack) (v : Node) → closed (Frame.array a vs ∷ st) ++ repeats v ≡ closed (Frame.array a (Nodes.cons v vs) ∷ st)
 unfolding closed insideAll
 array-closed a vs st v = append-assoc (closed st) (insideAll vs) (repeats v)
 
-pub object-closed : (a q x : ℕ) (us xs : Units) (ms : Members) (st : Stack) (v : Node) → closed (Frame.object a ms q us ∷ st) ++ repeats v ≡ closed (Frame.object a (Members.member q us v ms) x xs ∷ st)
+pub object-closed : (a q : ℕ) (us : Units) (ms : Members) (st : Stack) (v : Node) → closed (Frame.object a ms q us ∷ st) ++ repeats v ≡ closed (Frame.object a (Members.member q us v ms) q us ∷ st)
 unfolding closed deeper
-object-closed a q x us xs ms st v = append-assoc (closed st) (deeper ms) (repeats v)
+object-closed a q us ms st v = append-assoc (closed st) (deeper ms) (repeats v)
