@@ -7,40 +7,34 @@ use Rattle.members.specs.Names.{nameAt}
 use Rattle.names.proofs.Spelling.{spelt}
 use Rattle.names.specs.Units.{units}
 use Rattle.scan.specs.Numbers.{opensNumber}
+use Rattle.spell.proofs.Meeting.{number-opens}
 use Rattle.spell.specs.Scalars.{Scalar}
-use Rattle.meaning.proofs.NumberTrip.{nonzero-digit}
 use Rattle.meaning.specs.Canonical.{spelling}
 use Rattle.meaning.specs.Meaning.{Tree}
 use Rattle.text.proofs.Offsets.{Inside, InsideAll, InsideMembers, end, head-words, inside-span, start, text-inside, text-size}
 use Rattle.text.proofs.Records.{records-length, size-some, table-length}
 use Rattle.text.proofs.Takes.{chars-take, place, value-takes}
-use Rattle.text.proofs.Tests.{or-right, true-is}
-use Rattle.text.specs.Bytes.{Bytes, Source, Units, from, isDigit}
+use Rattle.text.specs.Bytes.{Bytes, Source, Units, from}
 use Rattle.text.specs.Ceilings.{house}
 use Rattle.text.specs.Decimal.{Decimal}
 use Rattle.text.specs.Grammar.{Array, Elements, Member, Named, Object, Rest, Text, Value}
 use Rattle.text.specs.Grammar as rule
 use Rattle.text.specs.Node.{Literal, Members, Node, Nodes}
-use Rattle.text.specs.Numbers.{Minus, Number, Whole}
+use Rattle.text.specs.Numbers.{Number}
 use Rattle.text.specs.Strings.{Chars, Word}
 use Rattle.text.specs.Table.{Words, records, recordsAll, recordsMembers, size, sizeAll, sizeMembers, table, unnamed}
 use Rattle.values.proofs.Sources.{At, at-byte, at-drop, at-inside, at-next, chars-at, number-at, value-at}
 use Rattle.values.proofs.Stretches.{Has, has-front, has-left, has-right}
 use Rattle.values.specs.Children.{Child, elements, members}
 use Rattle.values.specs.Held.{Held, HeldAll, Holds, Recorded, Spelt, Unlinked}
-use lib.Dec.{eqb}
 use lib.ListN.{drop, getD, length, length-append, length-drop}
+use lib.Seq.{getD-drop}
 use mathlib.Core.Bool.{true}
 use mathlib.Core.List.{List, _++_, _∷_}
 use mathlib.Core.Path.{_∙_, _≡_, ap, refl, subst, sym}
+use native.Mathlib.Nat.{add-zero}
 use native.Mathlib.Numerals.{add-one}
 use native.Mathlib.Omega.{arith}
-
--- The first byte of a number.
-number-first : {p : ℕ} {i : Bytes} {o : Source} {x : Decimal} → Number house (from p i) o x → (b : ℕ) × (j : Bytes) × (i ≡ b ∷ j) × (opensNumber b ≡ true)
-number-first (Number.number (Minus.minus {o = j}) w f e a) = (code "-", j, refl, refl)
-number-first (Number.number Minus.none (Whole.zero {o = j}) f e a) = (code "0", j, refl, refl)
-number-first (Number.number Minus.none (Whole.nonzero {b = b} {i = j} t d) f e a) = (b, j, refl, true-is (opensNumber b) (or-right (eqb b (code "-")) (isDigit b) (nonzero-digit b t)))
 
 module _ (t : Bytes) (h : length t ≤ maxText) where
   -- A name, or a string, behind its quote.
@@ -123,10 +117,9 @@ module _ (t : Bytes) (w : Words) (h : length t ≤ maxText) where
 
   number-held : {p q : ℕ} {i o : Bytes} {x : Decimal} → At t (from p i) → p < q → q ≤ length t → Number house (from p i) (from q o) x → Scalar t p q (Tree.number x)
   number-held {p} {q} {i} {o} {x} e l m n =
-      let (b, j, f, g) = number-first n in
-      let z : getD t p 0 ≡ b = at-byte t (subst (λ i. At t (from p i)) f e) in
-      Scalar.number (ap opensNumber z ∙ g) (omega arith) m
-      (subst (λ o. Number house (from p (drop p t)) (from q o) x) (at-drop (number-at t n e)) (subst (λ i. Number house (from p i) (from q o) x) (at-drop e) n))
+      let z : Number house (from p (drop p t)) (from q o) x = subst (λ i. Number house (from p i) (from q o) x) (at-drop e) n in
+      Scalar.number (simp (getD-drop, add-zero) at (number-opens z .1)) (omega arith) m
+      (subst (λ o. Number house (from p (drop p t)) (from q o) x) (at-drop (number-at t n e)) z)
 
   -- From the words of several values to those of the first and of the rest.
   first-fit : (k n m : ℕ) → Fit (k + (n + m)) → Fit (k + n)
