@@ -35,7 +35,7 @@ module _ (name : ℕ → Units) (a b : ℕ) where
   stand : Stand (order (name a) (name b))
   stand = stand-by (order (name a) (name b)) (order (name b) (name a)) (order-flip (name a) (name b))
 
-  pub same-order : name a ≡ name b → order (name a) (name b) ≡ 1
+  same-order : name a ≡ name b → order (name a) (name b) ≡ 1
   same-order e = rw e (order-refl (name b))
 
   -- The order, by the number that compares the names.
@@ -59,7 +59,7 @@ module _ (name : ℕ → Units) (a b : ℕ) where
         | last e ↦ before-last e ∙ sym (ne-eqb (order (name a) (name b)) 0 (λ f. omega (arith, e, f)))
       ]
 
-  pub ahead-first : ahead name a b ≡ true → order (name a) (name b) ≡ 0
+  ahead-first : ahead name a b ≡ true → order (name a) (name b) ≡ 0
   unfolding ahead
   ahead-first h = eqb-true _ _ h
 

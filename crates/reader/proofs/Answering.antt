@@ -100,7 +100,7 @@ module _ {t w tab : Words} (h : length t ≤ maxText) where
             (subst⁻¹ (λ l. Reading k t w (entry.Read.ready v l)) (r .filled ∙ records-over v w c (r .count)) (Reading.accepted h g (text-of (subst (Verdict house t) a (verdict t)))))
 
     -- A name stands twice, before whatever else.
-    pub named-twice : first < unnamed → answer t ≡ Outcome.refused 8 (closing (suc first) (drop (suc first) t))
+    named-twice : first < unnamed → answer t ≡ Outcome.refused 8 (closing (suc first) (drop (suc first) t))
     named-twice z = by s
       where
         told : (es : List ℕ) (a : Outcome) → answer t ≡ firstOr t es a → First t es a first → answer t ≡ Outcome.refused 8 (closing (suc first) (drop (suc first) t))

@@ -24,10 +24,10 @@ use native.Mathlib.Omega.{arith}
 
 -- The records written fit the table, and the open one is among them.
 module _ {t : Bytes} {w tab m : Words} {f : Frame} {st : Stack} {es : List ℕ} {d i n op first : ℕ} (q : Inside t w tab m (f ∷ st) es d i n op first) where
-  pub records-fit : 4 * n ≤ length tab
+  records-fit : 4 * n ≤ length tab
   records-fit = let l = q .laid in let e : length tab ≡ length (words (f ∷ st)) + length (drop (4 * n) w) = ap length (l .filled) ∙ length-append (words (f ∷ st)) (drop (4 * n) w) in omega (arith, l .full)
 
-  pub open-below : op < n
+  open-below : op < n
   unfolding begun
   open-below = by f (q .count) (opened-record q)
     where
@@ -35,7 +35,7 @@ module _ {t : Bytes} {w tab m : Words} {f : Frame} {st : Stack} {es : List ℕ} 
       by (Frame.array a vs) e g = omega arith
       by (Frame.object a ms x us) e g = omega arith
 
-  pub few : n ≤ length t
+  few : n ≤ length t
   few = omega (arith, q .laid .few, q .laid .bound)
 
 -- An object's members behind the stores that close it.
@@ -61,17 +61,17 @@ module _ {t : Bytes} {w tab m : Words} {a x : ℕ} {ms : Members} {us : Units} {
   unfolding begun
   last = omega (arith, q .count, opened-record q)
 
-  pub object-row : length t ≤ maxText → length tab′ ≡ length tab → Row t tab′ (op + 1) n
+  object-row : length t ≤ maxText → length tab′ ≡ length tab → Row t tab′ (op + 1) n
   object-row h l = row n kinned last h (omega (arith, few q)) (omega (arith, records-fit q))
 
-  pub object-closes : (first′ z : ℕ) → e ≤ length t → ((l : List ℕ) → Siblings tab′ n (op + 1) l → FirstRepeat t (named tab′ l) z) → Lesser first z first′
+  object-closes : (first′ z : ℕ) → e ≤ length t → ((l : List ℕ) → Siblings tab′ n (op + 1) l → FirstRepeat t (named tab′ l) z) → Lesser first z first′
       → (j : ℕ) → i ≤ j → j ≤ length t → After t w tab′ m st (shutAt (Frame.object a ms x us) e) es (d - 1) j n (getD tab (4 * op + 3) 0) first′
   unfolding shutAt closed
   object-closes first′ z c g y j h b =
       shut q e j first′ tab′ r h b c
       (subst⁻¹ (λ l. Least (closed st ++ l) first′) (object-repeats a e ms) (object-least (closed st) ms y (q .least) (own-least spelt (row-repeat n z kinned last g))))
 
-pub array-closes : {t : Bytes} {w tab m : Words} {a : ℕ} {vs : Nodes} {st : Stack} {es : List ℕ} {d i n op first : ℕ} (q : Inside t w tab m (Frame.array a vs ∷ st) es d i n op first)
+array-closes : {t : Bytes} {w tab m : Words} {a : ℕ} {vs : Nodes} {st : Stack} {es : List ℕ} {d i n op first : ℕ} (q : Inside t w tab m (Frame.array a vs ∷ st) es d i n op first)
     (e : ℕ) (tab′ : Words) → tab′ ≡ set (set tab (4 * op + 1) e) (4 * op + 3) n → e ≤ length t
     → (j : ℕ) → i ≤ j → j ≤ length t → After t w tab′ m st (shutAt (Frame.array a vs) e) es (d - 1) j n (getD tab (4 * op + 3) 0) first
 unfolding shutAt closed

@@ -26,11 +26,11 @@ use native.Mathlib.Omega.{arith}
 quote-on : {t : Bytes} {q b c : ℕ} {us : Units} → b ≤ c → Quote t q us b → Quote t q us c
 quote-on h x = record { before = omega (arith, x .before); inside = x .inside; means = x .means }
 
-pub spelt-on : {t : Bytes} {ms : Members} {b c : ℕ} → b ≤ c → Spelt t ms b → Spelt t ms c
+spelt-on : {t : Bytes} {ms : Members} {b c : ℕ} → b ≤ c → Spelt t ms b → Spelt t ms c
 spelt-on h Spelt.empty = Spelt.empty
 spelt-on h (Spelt.member x a b s) = Spelt.member (quote-on h x) a b s
 
-pub named-on : (t : Bytes) (st : Stack) {b c : ℕ} → b ≤ c → Named t st b → Named t st c
+named-on : (t : Bytes) (st : Stack) {b c : ℕ} → b ≤ c → Named t st b → Named t st c
 unfolding Named
 named-on t [] h x = tt
 named-on t (Frame.array a vs ∷ st) h (o, x) = (o, named-on t st h x)
@@ -182,7 +182,7 @@ module _ {t : Bytes} {w tab m : Words} {f : Frame} {st : Stack} {es : List ℕ} 
   unfolding openOf
   opened-record = q .laid .opened
 
-  pub around : openOf st ≡ getD tab (4 * op + 3) 0
+  around : openOf st ≡ getD tab (4 * op + 3) 0
   around = rw (opened-record, open-words) (sym (word-behind (words st) (opens f ∷ 0 ∷ nameOf st ∷ []) rest (openOf st) (begun st) 3 (words-length st) refl))
 
   pub shut-words : (e : ℕ) → set (set tab (4 * op + 1) e) (4 * op + 3) n ≡ words st ++ ((opens f ∷ e ∷ nameOf st ∷ n ∷ []) ++ rest)

@@ -40,7 +40,7 @@ name-or t us ns i a = by (among us ns)
     by true = refl
     by false = refl
 
-pub told-name : (t : Bytes) (es : List ℕ) {a : Judge → Outcome} (b : Judge → Outcome) (i p : ℕ) (ms : Members) (us : Units)
+told-name : (t : Bytes) (es : List ℕ) {a : Judge → Outcome} (b : Judge → Outcome) (i p : ℕ) (ms : Members) (us : Units)
     → answer t ≡ firstOr t es (a strict) → a ≡ judged p ms us b → closing (suc i) (drop (suc i) t) ≡ p → answer t ≡ firstOr t (es ++ again us (namesOf ms) i) (b strict)
 unfolding judged
 told-name t es b i p ms us h e c =
@@ -112,7 +112,7 @@ module _ {t : Bytes} {w tab m : Words} {d i n op first : ℕ} where
       by (EntryAt.named g h _ _) e = absurd (h e)
 
 -- Whitespace changes nothing of what is laid.
-pub inside-on : {t : Bytes} {w tab m : Words} {st : Stack} {es : List ℕ} {d i j n op first : ℕ} → i ≤ j → j ≤ length t → Inside t w tab m st es d i n op first → Inside t w tab m st es d j n op first
+inside-on : {t : Bytes} {w tab m : Words} {st : Stack} {es : List ℕ} {d i j n op first : ℕ} → i ≤ j → j ≤ length t → Inside t w tab m st es d i n op first → Inside t w tab m st es d j n op first
 inside-on {t} {st = st} h b q = record { laid = laid-on h b (q .laid); count = q .count; repeated = q .repeated; least = q .least; names = said-on t st h (q .names) }
 
 same-kind : (f : Frame) (v : Node) → kind f ≡ kind (joined f v)

@@ -43,7 +43,7 @@ rising-again {es} {b} {c} {q} us ns r h l = by (among us ns)
     by false = subst⁻¹ (λ l. Rising l c) (append-nil es) (rising-on (omega arith) r)
 
 -- The least of two lists.
-pub least-both : {l m : List ℕ} (n : List ℕ) {a b c : ℕ} → Lesser a b c → Least l a → Least m b
+least-both : {l m : List ℕ} (n : List ℕ) {a b c : ℕ} → Lesser a b c → Least l a → Least m b
     → ((x : ℕ) → In x n → In x l ⊎ In x m) → ((x : ℕ) → In x l → In x n) → ((x : ℕ) → In x m → In x n) → Least n c
 least-both {l} {m} n {a} {b} {c} z p q f g h = record { most = omega (arith, z .left, p .most); least = λ x i. by x (f x i); real = λ k. chosen k (z .one) }
   where

@@ -68,7 +68,7 @@ module _ {t : Bytes} {w tab m : Words} {k p n op first d : ℕ} (s : Stopped t w
       by (Stopped.inside f st es i b _ q) = after-stop small room k p st (shutAt f e) es (x w m f st es d i i q (mark-of q) (omega arith) (q .laid .bound)) refl b
       by (Stopped.named a ms us st es i b g q) = absurd (g refl)
 
-  pub settled : d ≡ 0 → Settled t w tab k p n first
+  settled : d ≡ 0 → Settled t w tab k p n first
   unfolding depthOf
   settled z = by s
     where

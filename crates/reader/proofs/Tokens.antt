@@ -66,7 +66,7 @@ module _ (t : Bytes) (i : ℕ) (h : i < length t) (b : ℕ) where
   pub took-at : (s s′ : State) → getD t i 0 ≡ b → Took shut (move s i b) s′ → at t s i ≡ at t s′ (i + 1)
   took-at s s′ e k = step t s i h (subst⁻¹ (λ b. Took shut (move s i b) s′) e k)
 
-  pub fault-at : (k : ℕ) (s : State) → getD t i 0 ≡ b → Fault loose (move s i b) k → at t s i ≡ refused k i
+  fault-at : (k : ℕ) (s : State) → getD t i 0 ≡ b → Fault loose (move s i b) k → at t s i ≡ refused k i
   fault-at k s e f = fail t s i h (subst⁻¹ (λ b. Fault loose (move s i b) k) e f)
 
 -- A byte that opens a container, or does not.

@@ -34,7 +34,7 @@ module _ (t : Bytes) {p b : ℕ} {i : Bytes} (x : At t (from p (b ∷ i))) where
   at-next = At.at (tail-eq-of-cons-eq (at-drop x ∙ drop-cons t p 0 at-inside))
 
 module _ (t : Bytes) where
-  pub word-at : {ks : Bytes} {i o : Source} → Word ks i o → At t i → At t o
+  word-at : {ks : Bytes} {i o : Source} → Word ks i o → At t i → At t o
   word-at Word.done e = e
   word-at (Word.byte w) e = word-at w (at-next t e)
 
