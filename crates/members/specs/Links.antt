@@ -11,7 +11,7 @@ use mathlib.Core.Path.{_≡_}
 abbrev pub lowPart : ℕ
 lowPart = 2_097_152
 
--- How many parts of a link one word holds, 2 ^ 11.
+-- A link's remainder by this, 2 ^ 11, stands in word 0, its quotient in word 1.
 abbrev pub linkPart : ℕ
 linkPart = 2_048
 

@@ -12,7 +12,7 @@ use crate::record::word_at;
 // Offsets are below this; what a word holds above it is for links.
 pub const LOW_PART: usize = 2097152;
 
-// How many parts of a link one word holds.
+// A link's remainder by this stands in word 0, its quotient in word 1.
 const LINK_PART: usize = 2048;
 
 // The link of record `r`.

@@ -6,7 +6,7 @@ ghost use Rattle.names.specs.Steps.{endCode};
 ghost use Rattle.text.specs.Bytes.{escapeUnit, hexValue};
 ghost use Rattle.text.specs.Strings.{hexUnit};
 
-// The number `b`.
+// `b`, the same number in more bits.
 pub fn wide(b: u8) -> u64
     ensures { λ r. ⌜ (r ≡ b) × (r < 256) ⌝ }
 {

@@ -1,4 +1,4 @@
-// The members of an object as a chain in the order of their names.
+// The members of a value in the order of their names: one that isn't there, or isn't an object, has none.
 ghost use Prim.Native.Nat.{_+_, ℕ};
 ghost use Rattle.meaning.specs.Meaning.{Pairs, Tree};
 ghost use Rattle.meaning.specs.Merge.{membersOf};
@@ -9,9 +9,10 @@ use crate::kind::is_object;
 use members::chain::Chain;
 use members::chain::order;
 use members::record::next;
+use reader::limits::MAX_TEXT;
 
 // The record of a value that isn't there.
-pub const NO_RECORD: usize = 1048576;
+pub const NO_RECORD: usize = MAX_TEXT;
 
 // The members of the object of record `r`, linked in order.
 pub fn enter(text: &[u8], table: &mut [u32], r: usize) -> Chain

@@ -14,7 +14,7 @@ pub struct Closed {
     pub first: usize,
 }
 
-// The number `q`.
+// `q`, the same number in more bits.
 fn wide(q: u32) -> usize
     ensures { λ r. ⌜ r ≡ q ⌝ }
 {

@@ -41,8 +41,8 @@ abbrev pub ReadTo : Bytes → ℕ → ℕ → Type 0
 ReadTo t i j = (i ≤ j) × (j ≤ length t) × Read t i j
 
 -- No plain character stands at `r`.
-abbrev pub Bare : Bytes → ℕ → Type 0
-Bare t r = r < length t → isPlain (getD t r 0) ≡ false
+abbrev pub NotPlain : Bytes → ℕ → Type 0
+NotPlain t r = r < length t → isPlain (getD t r 0) ≡ false
 
 -- What stands at `i` is a hexadecimal digit if `k` is 0, else no digit that a `\u` still wants.
 pub record HexAt (t : Bytes) (i k : ℕ) : Type 0 where

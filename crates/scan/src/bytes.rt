@@ -60,7 +60,7 @@ pub fn opens_number(b: u8) -> bool
     (b == b'-') | ((b'0' <= b) & (b <= b'9'))
 }
 
-// The number `b`.
+// `b`, the same number in more bits.
 pub fn wide(b: u8) -> u64
     ensures { λ r. ⌜ r ≡ b ⌝ }
 {

@@ -3,7 +3,7 @@ ghost use Prim.Native.Nat.{_+_, _≤_};
 ghost use mathlib.Core.Bool.{true};
 ghost use mathlib.Core.Path.{_≡_};
 ghost use lib.ListN.{length};
-ghost use Rattle.scan.specs.Strings.{Bare, EscapeAt, FourAt, Goes, HexAt, Hexed, Read, ReadTo, StringAt, four};
+ghost use Rattle.scan.specs.Strings.{EscapeAt, FourAt, Goes, HexAt, Hexed, NotPlain, Read, ReadTo, StringAt, four};
 use crate::bytes::byte_at;
 use crate::bytes::is_escape;
 use crate::bytes::is_hex;
@@ -44,7 +44,7 @@ fn eights(text: &[u8], from: usize) -> usize
 fn plain_run(text: &[u8], from: usize) -> usize
     requires { ⌜ from ≤ length (now text) ⌝ }
     ensures read { λ r. ⌜ ReadTo (now (text .entry)) from r ⌝ }
-    ensures bare { λ r. ⌜ Bare (now (text .entry)) r ⌝ }
+    ensures stops { λ r. ⌜ NotPlain (now (text .entry)) r ⌝ }
 {
     if !is_plain(byte_at(text, from)) {
         return from;

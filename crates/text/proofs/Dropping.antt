@@ -1,5 +1,6 @@
 -- What dropping one ceiling, but not that of digits, changes: a verdict with another number, or none, stays as it is, and
--- a text that this ceiling refused is accepted or refused at a later place. So a reader may judge repeated names behind everything else.
+-- a text that this ceiling refused is accepted or refused at a later place. So a reader
+-- may judge repeated names behind everything else.
 use Prim.Native.Nat.{_<_, _≤_, suc, ℕ}
 use Rattle.text.proofs.Demand3.{Cause, cause, run-verdict, verdict-run}
 use Rattle.text.proofs.Limits.{Limits, limits-without, wider}

@@ -6,7 +6,6 @@ use Rattle.members.specs.Records.{maxRecords, word}
 use Rattle.members.specs.Names.{nameAt}
 use Rattle.names.proofs.Spelling.{spelt}
 use Rattle.names.specs.Units.{units}
-use Rattle.scan.specs.Numbers.{opensNumber}
 use Rattle.spell.proofs.Meeting.{number-opens}
 use Rattle.spell.specs.Scalars.{Scalar}
 use Rattle.meaning.specs.Canonical.{spelling}

@@ -1,6 +1,6 @@
 -- Everything before `i` is read and no plain character stands there, so the byte at `i` decides: quote, escape or refusal.
 use Rattle.scan.proofs.StringLaws.{then, then-refused, slash-read, slash-refused, quote-ends, low-refused, high-refused, chars-short}
-use Rattle.scan.specs.Strings.{Bare, ReadTo}
+use Rattle.scan.specs.Strings.{NotPlain, ReadTo}
 use lib.ListN.{length}
 use native.Mathlib.Omega.{arith}
 use mathlib.Core.Path.{refl}
@@ -11,7 +11,7 @@ use Rattle.scan.proofs.string.string_at.Statement.{statement}
 use Rattle.scan.proofs.string.string_at.Tie as tie
 
 abbrev Inv-loop : tie.InvT-loop
-Inv-loop text from i₀ i = ReadTo text from i × Bare text i
+Inv-loop text from i₀ i = ReadTo text from i × NotPlain text i
 
 abbrev μ-loop : tie.MeasureT-loop
 μ-loop text from i₀ i = length text - i
