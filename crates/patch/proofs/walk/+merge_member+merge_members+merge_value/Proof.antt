@@ -1,9 +1,10 @@
 -- By the number of containers that may still open: a value calls on its members one level deeper, each member on its value.
 use Prim.Native.Nat.{_*_, _+_, _-_, _<_, ℕ}
 use Rattle.patch.proofs.Emitting.{emit-length}
-use Rattle.patch.proofs.Going.{at-room, end-fits, first-named, going-end, going-next, going-rest, going-start, going-turn, next-few, next-fits, both-empty, onward-same, takes-same}
-use Rattle.patch.proofs.Opening.{new-small, new-stands, object, old-small, old-value, opens-depth, opens-sides, opens-stands, plain-asks, plain-gives}
-use Rattle.patch.proofs.Taking.{keep-asks, keep-gives, name-fits, null-gives, patch-stands, sets, value-asks, value-gives, value-start}
+use Rattle.patch.proofs.Going.{Next, at-room, end-fits, first-named, going-end, going-next, going-rest, going-start, going-turn, next-few, next-fits, both-empty, onward-same, takes-same}
+use Rattle.patch.proofs.Opening.{Opens, new-small, new-stands, object, old-small, old-value, opens-depth, opens-sides, opens-stands, plain-asks, plain-gives}
+use Rattle.patch.proofs.Taking.{Sets, keep-asks, keep-gives, name-fits, null-gives, patch-stands, sets, value-asks, value-gives, value-start}
+use Rattle.patch.specs.Emits.{Fits}
 use Rattle.patch.specs.Walks.{Going, Sides}
 use Rattle.reader.specs.Tokens.{brace}
 use Rattle.text.specs.Bytes.{Bytes}
@@ -123,15 +124,15 @@ merge-member-same-length-3 t c = refl
 merge-member-returns-2 : (t : ℕ) → merge-member-lts.Need-returns-2 (merge-member-claims t) (merge-member-at t) merge-member.Post
 merge-member-returns-2 t c = ((λ e x. null-gives (c .before .before .before .if1 .left) (c .before .is-null .ensures) _ _ (c .if2 .taken) x), (refl, refl))
 
+-- The member that is set, once its value is known not to be null, and the room for it.
+member-set : (t : ℕ) (c : merge-member-lts.Else2 (merge-member-claims t) (merge-member-at t) merge-member.Post)
+    → let s = c .before .before .before .before .before .before .before .before .before in
+    let a = s .args in
+    Sets (a .target .now) (a .patch .now) (a .olds .now) (a .news .now) (a .depth) (a .x) (a .y) (a .z) (a .mark) (s .pre .1 .1 .0) × Fits (a .on) (s .pre .1 .1 .0) (a .out .now)
+member-set t c = let (d, (e, x, f)) = c .before .before .before .before .before .before .before .before .before .pre .1 in (sets (c .before .before .before .if1 .left) (c .before .is-null .ensures) (c .if2 .left) x, f)
+
 merge-member-emit-key-requires : (t : ℕ) → merge-member-lts.Need-emit-key-requires (merge-member-claims t) (merge-member-at t) merge-member.Post
-merge-member-emit-key-requires t c κs =
-    let at-if2 = c .before .before in
-    let at-is-null = at-if2 .before in
-    let at-if1 = at-is-null .before .before in
-    let start = at-if1 .before .before .before .before .before .before in
-    let (d, (e, x, f)) = start .pre .1 in
-    let s = sets (at-if1 .if1 .left) (at-is-null .is-null .ensures) (at-if2 .if2 .left) x in
-    (s .short, s .named, name-fits s f)
+merge-member-emit-key-requires t c κs = let (s, f) = member-set t (c .before .before) in (s .short, s .named, name-fits s f)
 
 merge-member-old-of-requires : (t : ℕ) → merge-member-lts.Need-old-of-requires (merge-member-claims t) (merge-member-at t) merge-member.Post
 merge-member-old-of-requires t c κs = search needs
@@ -141,16 +142,9 @@ merge-member-rest-at-requires t c κs = search needs
 
 merge-member-sub-merge-value : (t : ℕ) → merge-member-lts.Need-sub-merge-value (merge-member-claims t) (merge-member-at t) merge-member.Post
 merge-member-sub-merge-value t c =
-    let at-rest-at = c .before .before in
-    let at-old-of = at-rest-at .before in
-    let at-emit-key = at-old-of .before .before .before in
-    let at-if2 = at-emit-key .before .before .before in
-    let at-is-null = at-if2 .before in
-    let at-if1 = at-is-null .before .before in
-    let start = at-if1 .before .before .before .before .before .before in
-    let (d, (e, x, f)) = start .pre .1 in
-    let s = sets (at-if1 .if1 .left) (at-is-null .is-null .ensures) (at-if2 .if2 .left) x in
-    value-start s (name-fits s f .room) (at-emit-key .emit-key .ensures) (at-rest-at .rest-at .ensures) (at-old-of .old-of .ensures)
+    let k = c .before .before in
+    let (s, f) = member-set t (k .before .before .before .before .before .before .before) in
+    value-start s (name-fits s f .room) (k .before .before .before .before .emit-key .ensures) (k .rest-at .ensures) (k .before .old-of .ensures)
 
 merge-member-part-merge-value-start : (t : ℕ) → merge-member-lts.Need-part-merge-value-start (merge-member-claims t) (merge-member-at t) merge-member.Post
 merge-member-part-merge-value-start t c = merge-member-sub-merge-value t c
@@ -160,30 +154,16 @@ merge-member-part-merge-value-end t c = search needs
 
 merge-member-merge-value-requires : (t : ℕ) → merge-member-lts.Need-merge-value-requires (merge-member-claims t) (merge-member-at t) merge-member.Post
 merge-member-merge-value-requires t c κs =
-    let at-rest-at = c .before .before .before in
-    let at-old-of = at-rest-at .before in
-    let at-emit-key = at-old-of .before .before .before in
-    let at-if2 = at-emit-key .before .before .before in
-    let at-is-null = at-if2 .before in
-    let at-if1 = at-is-null .before .before in
-    let start = at-if1 .before .before .before .before .before .before in
-    let (d, (e, x, f)) = start .pre .1 in
-    let s = sets (at-if1 .if1 .left) (at-is-null .is-null .ensures) (at-if2 .if2 .left) x in
-    (omega (arith, start .pre .0), (d, value-asks s (name-fits s f .room) (at-emit-key .emit-key .ensures) (at-rest-at .rest-at .ensures) (at-old-of .old-of .ensures) f))
+    let k = c .before .before .before in
+    let (s, f) = member-set t (k .before .before .before .before .before .before .before) in
+    let p = k .before .before .before .before .before .before .before .before .before .before .before .before .before .before .before .before .pre in
+    (omega (arith, p .0), (p .1 .0, value-asks s (name-fits s f .room) (k .before .before .before .before .emit-key .ensures) (k .rest-at .ensures) (k .before .old-of .ensures) f))
 
 merge-member-add-result : (t : ℕ) → merge-member-lts.Need-add-result (merge-member-claims t) (merge-member-at t) merge-member.Post
 merge-member-add-result t c =
-    let at-merge-value = c .before .before .before .before .before .before in
-    let at-rest-at = at-merge-value .before .before .before .before in
-    let at-old-of = at-rest-at .before in
-    let at-emit-key = at-old-of .before .before .before in
-    let at-if2 = at-emit-key .before .before .before in
-    let at-is-null = at-if2 .before in
-    let at-if1 = at-is-null .before .before in
-    let start = at-if1 .before .before .before .before .before .before in
-    let (d, (e, x, f)) = start .pre .1 in
-    let s = sets (at-if1 .if1 .left) (at-is-null .is-null .ensures) (at-if2 .if2 .left) x in
-    omega (arith, f .few, (value-gives s (name-fits s f .room) (at-emit-key .emit-key .ensures) (at-rest-at .rest-at .ensures) (at-old-of .old-of .ensures) (at-merge-value .merge-value .ensures .0)) .count)
+    let k = c .before .before .before .before .before .before .before .before .before .before in
+    let (s, f) = member-set t (k .before .before .before .before .before .before .before) in
+    omega (arith, f .few, (value-gives s (name-fits s f .room) (k .before .before .before .before .emit-key .ensures) (k .rest-at .ensures) (k .before .old-of .ensures) (c .before .before .before .before .before .before .merge-value .ensures .0)) .count)
 
 merge-member-same-length-4 : (t : ℕ) → merge-member-lts.Need-same-length-4 (merge-member-claims t) (merge-member-at t) merge-member.Post
 merge-member-same-length-4 t c = ap length (c .before .before .before .before .before .before .merge-value .ensures .1 .0)
@@ -193,31 +173,17 @@ merge-member-same-length-5 t c = ap length (c .before .before .before .before .b
 
 merge-member-same-length-6 : (t : ℕ) → merge-member-lts.Need-same-length-6 (merge-member-claims t) (merge-member-at t) merge-member.Post
 merge-member-same-length-6 t c =
-    let at-merge-value = c .before .before .before .before .before .before in
-    let at-rest-at = at-merge-value .before .before .before .before in
-    let at-old-of = at-rest-at .before in
-    let at-emit-key = at-old-of .before .before .before in
-    let at-if2 = at-emit-key .before .before .before in
-    let at-is-null = at-if2 .before in
-    let at-if1 = at-is-null .before .before in
-    let start = at-if1 .before .before .before .before .before .before in
-    let (d, (e, x, f)) = start .pre .1 in
-    let s = sets (at-if1 .if1 .left) (at-is-null .is-null .ensures) (at-if2 .if2 .left) x in
-    emit-length (value-gives s (name-fits s f .room) (at-emit-key .emit-key .ensures) (at-rest-at .rest-at .ensures) (at-old-of .old-of .ensures) (at-merge-value .merge-value .ensures .0)) (f .room)
+    let k = c .before .before .before .before .before .before .before .before .before .before in
+    let (s, f) = member-set t (k .before .before .before .before .before .before .before) in
+    emit-length (value-gives s (name-fits s f .room) (k .before .before .before .before .emit-key .ensures) (k .rest-at .ensures) (k .before .old-of .ensures) (c .before .before .before .before .before .before .merge-value .ensures .0)) (f .room)
 
 merge-member-returns-3 : (t : ℕ) → merge-member-lts.Need-returns-3 (merge-member-claims t) (merge-member-at t) merge-member.Post
 merge-member-returns-3 t c =
-    let at-merge-value = c .before .before .before .before .before .before in
-    let at-rest-at = at-merge-value .before .before .before .before in
-    let at-old-of = at-rest-at .before in
-    let at-emit-key = at-old-of .before .before .before in
-    let at-if2 = at-emit-key .before .before .before in
-    let at-is-null = at-if2 .before in
-    let at-if1 = at-is-null .before .before in
-    let start = at-if1 .before .before .before .before .before .before in
-    let (d, (e, x, f)) = start .pre .1 in
-    let s = sets (at-if1 .if1 .left) (at-is-null .is-null .ensures) (at-if2 .if2 .left) x in
-    ((λ z y. value-gives (sets (at-if1 .if1 .left) (at-is-null .is-null .ensures) (at-if2 .if2 .left) y) (name-fits s f .room) (at-emit-key .emit-key .ensures) (at-rest-at .rest-at .ensures) (at-old-of .old-of .ensures) (at-merge-value .merge-value .ensures .0)), at-merge-value .merge-value .ensures .1)
+    let k = c .before .before .before .before .before .before .before .before .before .before in
+    let m = k .before .before .before .before .before .before .before in
+    let (s, f) = member-set t m in
+    let v = c .before .before .before .before .before .before .merge-value .ensures in
+    ((λ z y. value-gives (sets (m .before .before .before .if1 .left) (m .before .is-null .ensures) (m .if2 .left) y) (name-fits s f .room) (k .before .before .before .before .emit-key .ensures) (k .rest-at .ensures) (k .before .old-of .ensures) (v .0)), v .1)
 
 abbrev merge-members-Inv-loop : merge-members-lts.InvT-loop
 merge-members-Inv-loop target olds₀ a m patch news₀ b n depth on out₀ at₀ x₀ i₀ y₀ j₀ olds news out at x i y j =
@@ -230,8 +196,33 @@ merge-members-μ-loop target olds₀ a m patch news₀ b n depth on out₀ at₀
 merge-members-loop-holds : (t : ℕ) → merge-members-lts.Need-loop-holds (merge-members-claims t) (merge-members-at t) merge-members.Post merge-members-Inv-loop merge-members-μ-loop
 merge-members-loop-holds t c = (refl, refl, λ e s. going-start _ _ s)
 
+-- The members left, and the room for the whole.
+members-going : (t : ℕ) (c : merge-members-lts.At-loop (merge-members-claims t) (merge-members-at t) merge-members.Post merge-members-Inv-loop merge-members-μ-loop)
+    → let s = c .before .before .before .before .before .before in
+    let a = s .args in
+    let l = c .loop in
+    Going (a .target .now) (a .patch .now) (a .olds .now) (a .news .now) (a .depth) (l .i) (l .x) (l .j) (l .y) (a .on) (a .out .now) (l .at) (l .out) (s .pre .1 .1 .0)
+    × Fits (a .on) (s .pre .1 .1 .0) (a .out .now)
+members-going t c = let (d, (e, x, f)) = c .before .before .before .before .before .before .pre .1 in (c .loop .inv .2 e x, f)
+
+-- The next turn, once its number and its mark are known.
+members-next : (t : ℕ) (c : merge-members-lts.After-mark-at (merge-members-claims t) (merge-members-at t) merge-members.Post merge-members-Inv-loop merge-members-μ-loop)
+    → let h = c .before .before .before .before .before in
+    let a = h .before .before .before .before .before .before .args in
+    let l = h .loop in
+    let g = members-going t h .0 in
+    Next (a .target .now) (a .patch .now) (a .olds .now) (a .news .now) (a .depth) (l .i) (l .x) (l .j) (l .y) (c .before .turn .result) (c .mark-at .result) (g .done) (g .merged)
+members-next t c =
+    let h = c .before .before .before .before .before in
+    let v = h .loop .inv in
+    going-next (members-going t h .0) (v .0) (v .1) (c .before .before .before .before .loop-test .taken) (c .before .turn .ensures) (c .mark-at .ensures)
+
 merge-members-turn-requires : (t : ℕ) → merge-members-lts.Need-turn-requires (merge-members-claims t) (merge-members-at t) merge-members.Post merge-members-Inv-loop merge-members-μ-loop
-merge-members-turn-requires t c κs = let (d, (e, x, f)) = c .before .before .before .before .before .before .before .before .before .pre .1 in let v = c .before .before .before .loop .inv in let g = v .2 e x in ((λ l. first-named (v .0) (g .target) l), λ l. first-named (v .1) (g .patch) l)
+merge-members-turn-requires t c κs =
+    let h = c .before .before .before in
+    let v = h .loop .inv in
+    let (g, f) = members-going t h in
+    ((λ l. first-named (v .0) (g .target) l), λ l. first-named (v .1) (g .patch) l)
 
 merge-members-mark-at-requires : (t : ℕ) → merge-members-lts.Need-mark-at-requires (merge-members-claims t) (merge-members-at t) merge-members.Post merge-members-Inv-loop merge-members-μ-loop
 merge-members-mark-at-requires t c κs = search needs
@@ -240,14 +231,7 @@ merge-members-rest-at-requires : (t : ℕ) → merge-members-lts.Need-rest-at-re
 merge-members-rest-at-requires t c κs = search needs
 
 merge-members-sub-merge-member : (t : ℕ) → merge-members-lts.Need-sub-merge-member (merge-members-claims t) (merge-members-at t) merge-members.Post merge-members-Inv-loop merge-members-μ-loop
-merge-members-sub-merge-member t c =
-    let at-rest-at = c .before .before in
-    let at-loop = at-rest-at .before .before .before .before .before .before in
-    let start = at-loop .before .before .before .before .before .before in
-    let (d, (e, x, f)) = start .pre .1 in
-    let v = at-loop .loop .inv in
-    let g = v .2 e x in
-    going-rest g (at-room g f) (at-rest-at .rest-at .ensures)
+merge-members-sub-merge-member t c = let k = c .before .before in let (g, f) = members-going t (k .before .before .before .before .before .before) in going-rest g (at-room g f) (k .rest-at .ensures)
 
 merge-members-part-merge-member-start : (t : ℕ) → merge-members-lts.Need-part-merge-member-start (merge-members-claims t) (merge-members-at t) merge-members.Post merge-members-Inv-loop merge-members-μ-loop
 merge-members-part-merge-member-start t c = merge-members-sub-merge-member t c
@@ -257,121 +241,65 @@ merge-members-part-merge-member-end t c = search needs
 
 merge-members-merge-member-requires : (t : ℕ) → merge-members-lts.Need-merge-member-requires (merge-members-claims t) (merge-members-at t) merge-members.Post merge-members-Inv-loop merge-members-μ-loop
 merge-members-merge-member-requires t c κs =
-    let at-rest-at = c .before .before .before in
-    let at-mark-at = at-rest-at .before in
-    let at-turn = at-mark-at .before in
-    let at-loop-test = at-turn .before .before .before in
-    let at-loop = at-loop-test .before in
-    let start = at-loop .before .before .before .before .before .before in
-    let (d, (e, x, f)) = start .pre .1 in
-    let v = at-loop .loop .inv in
-    let g = v .2 e x in
-    let n = going-next g (v .0) (v .1) (at-loop-test .loop-test .taken) (at-turn .turn .ensures) (at-mark-at .mark-at .ensures) in
-    (omega (arith, start .pre .0), (d, (n .entry, takes-same (v .0) (v .1) (n .takes), next-fits g (at-room g f) (at-rest-at .rest-at .ensures) n f)))
+    let k = c .before .before .before in
+    let h = k .before .before .before .before .before .before in
+    let p = h .before .before .before .before .before .before .pre in
+    let v = h .loop .inv in
+    let (g, f) = members-going t h in
+    let n = members-next t (k .before) in
+    (omega (arith, p .0), (p .1 .0, (n .entry, takes-same (v .0) (v .1) (n .takes), next-fits g (at-room g f) (k .rest-at .ensures) n f)))
 
 merge-members-add-at : (t : ℕ) → merge-members-lts.Need-add-at (merge-members-claims t) (merge-members-at t) merge-members.Post merge-members-Inv-loop merge-members-μ-loop
 merge-members-add-at t c =
-    let at-merge-member = c .before .before .before .before .before .before in
-    let at-rest-at = at-merge-member .before .before .before .before in
-    let at-mark-at = at-rest-at .before in
-    let at-turn = at-mark-at .before in
-    let at-loop-test = at-turn .before .before .before in
-    let at-loop = at-loop-test .before in
-    let start = at-loop .before .before .before .before .before .before in
-    let (d, (e, x, f)) = start .pre .1 in
-    let v = at-loop .loop .inv in
-    let g = v .2 e x in
-    let n = going-next g (v .0) (v .1) (at-loop-test .loop-test .taken) (at-turn .turn .ensures) (at-mark-at .mark-at .ensures) in
-    omega (arith, next-few g (at-room g f) (at-rest-at .rest-at .ensures) n f (at-merge-member .merge-member .ensures .0 _ (takes-same (v .0) (v .1) (n .takes))))
+    let m = c .before .before .before .before .before .before in
+    let k = m .before .before .before .before in
+    let h = k .before .before .before .before .before .before in
+    let v = h .loop .inv in
+    let (g, f) = members-going t h in
+    let n = members-next t (k .before) in
+    omega (arith, next-few g (at-room g f) (k .rest-at .ensures) n f (m .merge-member .ensures .0 _ (takes-same (v .0) (v .1) (n .takes))))
 
 merge-members-onward-if-requires : (t : ℕ) → merge-members-lts.Need-onward-if-requires (merge-members-claims t) (merge-members-at t) merge-members.Post merge-members-Inv-loop merge-members-μ-loop
 merge-members-onward-if-requires t c κs =
-    let at-merge-member = c .before .before .before .before .before .before .before in
-    let at-mark-at = at-merge-member .before .before .before .before .before in
-    let at-turn = at-mark-at .before in
-    let at-loop-test = at-turn .before .before .before in
-    let at-loop = at-loop-test .before in
-    let start = at-loop .before .before .before .before .before .before in
-    let (d, (e, x, f)) = start .pre .1 in
-    let v = at-loop .loop .inv in
-    let g = v .2 e x in
-    let n = going-next g (v .0) (v .1) (at-loop-test .loop-test .taken) (at-turn .turn .ensures) (at-mark-at .mark-at .ensures) in λ l. first-named (at-merge-member .merge-member .ensures .1 .0 ∙ v .0) (g .target) (n .turns .0 l) .0
+    let m = c .before .before .before .before .before .before .before in
+    let h = m .before .before .before .before .before .before .before .before .before .before in
+    λ l. first-named (m .merge-member .ensures .1 .0 ∙ h .loop .inv .0) (members-going t h .0 .target) (members-next t (m .before .before .before .before .before) .turns .0 l) .0
 
 merge-members-fewer-if-requires : (t : ℕ) → merge-members-lts.Need-fewer-if-requires (merge-members-claims t) (merge-members-at t) merge-members.Post merge-members-Inv-loop merge-members-μ-loop
-merge-members-fewer-if-requires t c κs =
-    let at-mark-at = c .before .before .before .before .before .before .before .before .before .before .before .before .before in
-    let at-turn = at-mark-at .before in
-    let at-loop-test = at-turn .before .before .before in
-    let at-loop = at-loop-test .before in
-    let start = at-loop .before .before .before .before .before .before in
-    let (d, (e, x, f)) = start .pre .1 in
-    let v = at-loop .loop .inv in
-    let g = v .2 e x in
-    let n = going-next g (v .0) (v .1) (at-loop-test .loop-test .taken) (at-turn .turn .ensures) (at-mark-at .mark-at .ensures) in
-    n .turns .0
+merge-members-fewer-if-requires t c κs = members-next t (c .before .before .before .before .before .before .before .before .before .before .before .before .before) .turns .0
 
 merge-members-onward-if-requires-2 : (t : ℕ) → merge-members-lts.Need-onward-if-requires-2 (merge-members-claims t) (merge-members-at t) merge-members.Post merge-members-Inv-loop merge-members-μ-loop
 merge-members-onward-if-requires-2 t c κs =
-    let at-merge-member = c .before .before .before .before .before .before .before .before .before .before in
-    let at-mark-at = at-merge-member .before .before .before .before .before in
-    let at-turn = at-mark-at .before in
-    let at-loop-test = at-turn .before .before .before in
-    let at-loop = at-loop-test .before in
-    let start = at-loop .before .before .before .before .before .before in
-    let (d, (e, x, f)) = start .pre .1 in
-    let v = at-loop .loop .inv in
-    let g = v .2 e x in
-    let n = going-next g (v .0) (v .1) (at-loop-test .loop-test .taken) (at-turn .turn .ensures) (at-mark-at .mark-at .ensures) in λ l. first-named (at-merge-member .merge-member .ensures .1 .1 ∙ v .1) (g .patch) (n .turns .1 l) .0
+    let m = c .before .before .before .before .before .before .before .before .before .before in
+    let h = m .before .before .before .before .before .before .before .before .before .before in
+    λ l. first-named (m .merge-member .ensures .1 .1 ∙ h .loop .inv .1) (members-going t h .0 .patch) (members-next t (m .before .before .before .before .before) .turns .1 l) .0
 
 merge-members-fewer-if-requires-2 : (t : ℕ) → merge-members-lts.Need-fewer-if-requires-2 (merge-members-claims t) (merge-members-at t) merge-members.Post merge-members-Inv-loop merge-members-μ-loop
-merge-members-fewer-if-requires-2 t c κs =
-    let at-mark-at = c .before .before .before .before .before .before .before .before .before .before .before .before .before .before .before .before in
-    let at-turn = at-mark-at .before in
-    let at-loop-test = at-turn .before .before .before in
-    let at-loop = at-loop-test .before in
-    let start = at-loop .before .before .before .before .before .before in
-    let (d, (e, x, f)) = start .pre .1 in
-    let v = at-loop .loop .inv in
-    let g = v .2 e x in
-    let n = going-next g (v .0) (v .1) (at-loop-test .loop-test .taken) (at-turn .turn .ensures) (at-mark-at .mark-at .ensures) in
-    n .turns .1
+merge-members-fewer-if-requires-2 t c κs = members-next t (c .before .before .before .before .before .before .before .before .before .before .before .before .before .before .before .before) .turns .1
 
 merge-members-loop-less : (t : ℕ) → merge-members-lts.Need-loop-less (merge-members-claims t) (merge-members-at t) merge-members.Post merge-members-Inv-loop merge-members-μ-loop
-merge-members-loop-less t c =
-    let at-fewer-if = c .before .before .before in
-    let at-mark-at = at-fewer-if .before .before .before .before .before .before .before .before .before .before .before .before .before .before in
-    let at-turn = at-mark-at .before in
-    let at-loop-test = at-turn .before .before .before in
-    let at-loop = at-loop-test .before in
-    let start = at-loop .before .before .before .before .before .before in
-    let (d, (e, x, f)) = start .pre .1 in
-    let v = at-loop .loop .inv in
-    let g = v .2 e x in
-    let n = going-next g (v .0) (v .1) (at-loop-test .loop-test .taken) (at-turn .turn .ensures) (at-mark-at .mark-at .ensures) in
-    omega (arith, n .less, at-fewer-if .fewer-if .ensures, c .fewer-if2 .ensures)
+merge-members-loop-less t c = omega (arith, members-next t (c .before .before .before .before .before .before .before .before .before .before .before .before .before .before .before .before .before) .less, c .before .before .before .fewer-if .ensures, c .fewer-if2 .ensures)
 
 merge-members-loop-again : (t : ℕ) → merge-members-lts.Need-loop-again (merge-members-claims t) (merge-members-at t) merge-members.Post merge-members-Inv-loop merge-members-μ-loop
 merge-members-loop-again t c =
-    let at-onward-if2 = c .before in
-    let at-fewer-if = at-onward-if2 .before .before in
-    let at-onward-if = at-fewer-if .before in
-    let at-merge-member = at-onward-if .before .before .before .before .before .before .before .before in
-    let at-rest-at = at-merge-member .before .before .before .before in
-    let at-mark-at = at-rest-at .before in
-    let at-turn = at-mark-at .before in
-    let at-loop-test = at-turn .before .before .before in
-    let at-loop = at-loop-test .before in
-    let start = at-loop .before .before .before .before .before .before in
-    let (d, (e, x, f)) = start .pre .1 in
-    let v = at-loop .loop .inv in
-    let g = v .2 e x in
-    (at-merge-member .merge-member .ensures .1 .0 ∙ v .0, at-merge-member .merge-member .ensures .1 .1 ∙ v .1, λ q s. let h = v .2 q s in let n = going-next h (v .0) (v .1) (at-loop-test .loop-test .taken) (at-turn .turn .ensures) (at-mark-at .mark-at .ensures) in going-turn h (at-room g f) (at-rest-at .rest-at .ensures) n (at-merge-member .merge-member .ensures .0 _ (takes-same (v .0) (v .1) (n .takes))) (onward-same _ _ (at-merge-member .merge-member .ensures .1 .0 ∙ v .0) (at-onward-if .onward-if .ensures)) (at-fewer-if .fewer-if .ensures) (onward-same _ _ (at-merge-member .merge-member .ensures .1 .1 ∙ v .1) (at-onward-if2 .onward-if2 .ensures)) (c .fewer-if2 .ensures))
+    let r = c .before .before .before .before .before .before .before .before .before .before .before .before .merge-member .ensures in
+    let k = c .before .before .before .before .before .before .before .before .before .before .before .before .before .before .before .before in
+    let h = k .before .before .before .before .before .before in
+    let v = h .loop .inv in
+    let (g, f) = members-going t h in
+    let a = r .1 .0 ∙ v .0 in
+    let b = r .1 .1 ∙ v .1 in (
+      a,
+      b,
+      λ q s. let n = going-next (v .2 q s) (v .0) (v .1) (k .before .before .before .before .before .loop-test .taken) (k .before .before .turn .ensures) (k .before .mark-at .ensures) in
+          going-turn (v .2 q s) (at-room g f) (k .rest-at .ensures) n (r .0 _ (takes-same (v .0) (v .1) (n .takes))) (onward-same _ _ a (c .before .before .before .before .onward-if .ensures)) (c .before .before .before .fewer-if .ensures) (onward-same _ _ b (c .before .onward-if2 .ensures)) (c .fewer-if2 .ensures),
+    )
 
 merge-members-rest-at-requires-2 : (t : ℕ) → merge-members-lts.Need-rest-at-requires-2 (merge-members-claims t) (merge-members-at t) merge-members.Post merge-members-Inv-loop merge-members-μ-loop
 merge-members-rest-at-requires-2 t c κs = search needs
 
 merge-members-sub-emit-end : (t : ℕ) → merge-members-lts.Need-sub-emit-end (merge-members-claims t) (merge-members-at t) merge-members.Post merge-members-Inv-loop merge-members-μ-loop
-merge-members-sub-emit-end t c = let (d, (e, x, f)) = c .before .before .before .before .before .before .before .before .pre .1 in let v = c .before .before .loop .inv in let g = v .2 e x in going-rest g (at-room g f) (c .rest-at2 .ensures)
+merge-members-sub-emit-end t c = let (g, f) = members-going t (c .before .before) in going-rest g (at-room g f) (c .rest-at2 .ensures)
 
 merge-members-part-emit-end-start : (t : ℕ) → merge-members-lts.Need-part-emit-end-start (merge-members-claims t) (merge-members-at t) merge-members.Post merge-members-Inv-loop merge-members-μ-loop
 merge-members-part-emit-end-start t c = merge-members-sub-emit-end t c
@@ -380,20 +308,17 @@ merge-members-part-emit-end-end : (t : ℕ) → merge-members-lts.Need-part-emit
 merge-members-part-emit-end-end t c = search needs
 
 merge-members-emit-end-requires : (t : ℕ) → merge-members-lts.Need-emit-end-requires (merge-members-claims t) (merge-members-at t) merge-members.Post merge-members-Inv-loop merge-members-μ-loop
-merge-members-emit-end-requires t c κs = let (d, (e, x, f)) = c .before .before .before .before .before .before .before .before .before .pre .1 in let v = c .before .before .before .loop .inv in let g = v .2 e x in let (l, m) = both-empty _ _ (c .before .before .loop-test .left) in end-fits g (at-room g f) (c .before .rest-at2 .ensures) l m f
+merge-members-emit-end-requires t c κs =
+    let (g, f) = members-going t (c .before .before .before) in
+    let (l, m) = both-empty _ _ (c .before .before .loop-test .left) in
+    end-fits g (at-room g f) (c .before .rest-at2 .ensures) l m f
 
 merge-members-add-result : (t : ℕ) → merge-members-lts.Need-add-result (merge-members-claims t) (merge-members-at t) merge-members.Post merge-members-Inv-loop merge-members-μ-loop
 merge-members-add-result t c =
-    let at-emit-end = c .before .before in
-    let at-rest-at2 = at-emit-end .before .before in
-    let at-loop-test = at-rest-at2 .before in
-    let at-loop = at-loop-test .before in
-    let start = at-loop .before .before .before .before .before .before in
-    let (d, (e, x, f)) = start .pre .1 in
-    let v = at-loop .loop .inv in
-    let g = v .2 e x in
-    let (l, m) = both-empty _ _ (at-loop-test .loop-test .left) in
-    omega (arith, f .few, (going-end g (at-room g f) (at-rest-at2 .rest-at2 .ensures) l m (at-emit-end .emit-end .ensures)) .count)
+    let h = c .before .before .before .before .before .before in
+    let (g, f) = members-going t h in
+    let (l, m) = both-empty _ _ (c .before .before .before .before .before .loop-test .left) in
+    omega (arith, f .few, (going-end g (at-room g f) (c .before .before .before .before .rest-at2 .ensures) l m (c .before .before .emit-end .ensures)) .count)
 
 merge-members-same-length : (t : ℕ) → merge-members-lts.Need-same-length (merge-members-claims t) (merge-members-at t) merge-members.Post merge-members-Inv-loop merge-members-μ-loop
 merge-members-same-length t c = ap length (c .before .before .before .before .before .before .loop .inv .0)
@@ -403,29 +328,18 @@ merge-members-same-length-2 t c = ap length (c .before .before .before .before .
 
 merge-members-same-length-3 : (t : ℕ) → merge-members-lts.Need-same-length-3 (merge-members-claims t) (merge-members-at t) merge-members.Post merge-members-Inv-loop merge-members-μ-loop
 merge-members-same-length-3 t c =
-    let at-emit-end = c .before .before in
-    let at-rest-at2 = at-emit-end .before .before in
-    let at-loop-test = at-rest-at2 .before in
-    let at-loop = at-loop-test .before in
-    let start = at-loop .before .before .before .before .before .before in
-    let (d, (e, x, f)) = start .pre .1 in
-    let v = at-loop .loop .inv in
-    let g = v .2 e x in
-    let (l, m) = both-empty _ _ (at-loop-test .loop-test .left) in
-    emit-length (going-end g (at-room g f) (at-rest-at2 .rest-at2 .ensures) l m (at-emit-end .emit-end .ensures)) (f .room)
+    let h = c .before .before .before .before .before .before in
+    let (g, f) = members-going t h in
+    let (l, m) = both-empty _ _ (c .before .before .before .before .before .loop-test .left) in
+    emit-length (going-end g (at-room g f) (c .before .before .before .before .rest-at2 .ensures) l m (c .before .before .emit-end .ensures)) (f .room)
 
 merge-members-returns : (t : ℕ) → merge-members-lts.Need-returns (merge-members-claims t) (merge-members-at t) merge-members.Post merge-members-Inv-loop merge-members-μ-loop
 merge-members-returns t c =
-    let at-emit-end = c .before .before in
-    let at-rest-at2 = at-emit-end .before .before in
-    let at-loop-test = at-rest-at2 .before in
-    let at-loop = at-loop-test .before in
-    let start = at-loop .before .before .before .before .before .before in
-    let (d, (e, x, f)) = start .pre .1 in
-    let v = at-loop .loop .inv in
-    let g = v .2 e x in
-    let (l, m) = both-empty _ _ (at-loop-test .loop-test .left) in
-    ((λ q s. going-end (v .2 q s) (at-room g f) (at-rest-at2 .rest-at2 .ensures) l m (at-emit-end .emit-end .ensures)), (v .0, v .1))
+    let h = c .before .before .before .before .before .before in
+    let (g, f) = members-going t h in
+    let (l, m) = both-empty _ _ (c .before .before .before .before .before .loop-test .left) in
+    let v = h .loop .inv in
+    ((λ q s. going-end (v .2 q s) (at-room g f) (c .before .before .before .before .rest-at2 .ensures) l m (c .before .before .emit-end .ensures)), (v .0, v .1))
 
 merge-value-is-object-requires : (t : ℕ) → merge-value-lts.Need-is-object-requires (merge-value-claims t) (merge-value-at t) merge-value.Post
 merge-value-is-object-requires t c κs = let (d, (e, x, f)) = c .before .before .before .before .before .before .pre .1 in new-stands x
@@ -455,27 +369,26 @@ merge-value-returns t c =
 merge-value-enter-old-requires : (t : ℕ) → merge-value-lts.Need-enter-old-requires (merge-value-claims t) (merge-value-at t) merge-value.Post
 merge-value-enter-old-requires t c κs = let (d, (e, x, f)) = c .before .before .before .before .before .before .before .before .before .pre .1 in old-value x
 
+-- The patch's object, once its value is known to be one, and the room for the result.
+value-opens : (t : ℕ) (c : merge-value-lts.Else1 (merge-value-claims t) (merge-value-at t) merge-value.Post)
+    → let s = c .before .before .before .before .before .before .before .before in
+    let a = s .args in
+    Opens (a .target .now) (a .patch .now) (a .olds .now) (a .news .now) (a .depth) (a .x) (a .y) (s .pre .1 .1 .0) × Fits (a .on) (s .pre .1 .1 .0) (a .out .now)
+value-opens t c = let (d, (e, x, f)) = c .before .before .before .before .before .before .before .before .pre .1 in (object (c .before .is-object .ensures) (c .if1 .left) x, f)
+
 merge-value-enter-requires : (t : ℕ) → merge-value-lts.Need-enter-requires (merge-value-claims t) (merge-value-at t) merge-value.Post
-merge-value-enter-requires t c κs =
-    let at-if1 = c .before .before .before .before .before in
-    let at-is-object = at-if1 .before in
-    let start = at-is-object .before .before .before .before .before .before .before in
-    let (d, (e, x, f)) = start .pre .1 in
-    opens-stands (object (at-is-object .is-object .ensures) (at-if1 .if1 .left) x)
+merge-value-enter-requires t c κs = opens-stands (value-opens t (c .before .before .before .before .before) .0)
 
 merge-value-add-merge-members : (t : ℕ) → merge-value-lts.Need-add-merge-members (merge-value-claims t) (merge-value-at t) merge-value.Post
 merge-value-add-merge-members t c = let (d, (e, x, f)) = c .before .before .before .before .before .before .before .before .before .before .before .before .before .before .before .before .before .before .pre .1 in omega (arith, d)
 
 merge-value-merge-members-requires : (t : ℕ) → merge-value-lts.Need-merge-members-requires (merge-value-claims t) (merge-value-at t) merge-value.Post
 merge-value-merge-members-requires t c κs =
-    let at-enter = c .before .before .before .before .before in
-    let at-enter-old = at-enter .before .before .before .before in
-    let at-if1 = at-enter-old .before .before in
-    let at-is-object = at-if1 .before in
-    let start = at-is-object .before .before .before .before .before .before .before in
-    let (d, (e, x, f)) = start .pre .1 in
-    let o = (object (at-is-object .is-object .ensures) (at-if1 .if1 .left) x) in
-    (omega (arith, start .pre .0, opens-depth o), (omega (arith, opens-depth o), (e, opens-sides (at-enter-old .enter-old .ensures .0) (at-enter .enter .ensures .0) o, f)))
+    let k = c .before .before .before .before .before in
+    let l = k .before .before .before .before in
+    let m = l .before .before in
+    let (o, f) = value-opens t m in
+    (omega (arith, m .before .before .before .before .before .before .before .before .pre .0, opens-depth o), (omega (arith, opens-depth o), (_, opens-sides (l .enter-old .ensures .0) (k .enter .ensures .0) o, f)))
 
 merge-value-add-clear : (t : ℕ) → merge-value-lts.Need-add-clear (merge-value-claims t) (merge-value-at t) merge-value.Post
 merge-value-add-clear t c = let (d, (e, x, f)) = c .before .before .before .before .before .before .before .before .before .before .before .before .before .before .before .before .before .before .before .before .before .before .before .before .before .before .before .pre .1 in omega (arith, old-small x)
@@ -508,14 +421,11 @@ merge-value-same-length-4 t c =
 
 merge-value-same-length-5 : (t : ℕ) → merge-value-lts.Need-same-length-5 (merge-value-claims t) (merge-value-at t) merge-value.Post
 merge-value-same-length-5 t c =
-    let at-merge-members = c .before .before .before .before .before .before .before .before .before .before .before .before .before .before in
-    let at-enter = at-merge-members .before .before .before .before .before .before in
-    let at-enter-old = at-enter .before .before .before .before in
-    let at-if1 = at-enter-old .before .before in
-    let at-is-object = at-if1 .before in
-    let start = at-is-object .before .before .before .before .before .before .before in
-    let (d, (e, x, f)) = start .pre .1 in
-    emit-length (at-merge-members .merge-members .ensures .0 e (opens-sides (at-enter-old .enter-old .ensures .0) (at-enter .enter .ensures .0) (object (at-is-object .is-object .ensures) (at-if1 .if1 .left) x))) (f .room)
+    let m = c .before .before .before .before .before .before .before .before .before .before .before .before .before .before in
+    let k = m .before .before .before .before .before .before in
+    let l = k .before .before .before .before in
+    let (o, f) = value-opens t (l .before .before) in
+    emit-length (m .merge-members .ensures .0 _ (opens-sides (l .enter-old .ensures .0) (k .enter .ensures .0) o)) (f .room)
 
 merge-value-returns-2 : (t : ℕ) → merge-value-lts.Need-returns-2 (merge-value-claims t) (merge-value-at t) merge-value.Post
 merge-value-returns-2 t c =
