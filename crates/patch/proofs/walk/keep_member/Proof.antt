@@ -24,36 +24,27 @@ emit-value-requires c κs = let s = c .before .before .before .before .before .b
 
 add-result : tie.Need-add-result
 add-result c =
-    let at-emit-value = c .before .before .before .before in
-    let at-rest-at = at-emit-value .before .before .before in
-    let at-emit-key = at-rest-at .before .before .before in
-    let at-before = at-emit-key .before .before .before .before .before in
-    let s = at-before .before in
-    let (v, x, f) = s .pre .3 in
-    omega (arith, f .few, (both-emit _ _ f (at-emit-key .emit-key .ensures) (at-rest-at .rest-at .ensures) (at-emit-value .emit-value .ensures .0 v x)) .count)
+    let m = c .before .before .before .before in
+    let k = m .before .before .before in
+    let (v, x, f) = k .before .before .before .before .before .before .before .before .before .pre .3 in
+    omega (arith, f .few, (both-emit _ _ f (k .before .before .before .emit-key .ensures) (k .rest-at .ensures) (m .emit-value .ensures .0 v x)) .count)
 
 same-length : tie.Need-same-length
 same-length c = search needs
 
 same-length-2 : tie.Need-same-length-2
 same-length-2 c =
-    let at-emit-value = c .before .before .before .before in
-    let at-rest-at = at-emit-value .before .before .before in
-    let at-emit-key = at-rest-at .before .before .before in
-    let at-before = at-emit-key .before .before .before .before .before in
-    let s = at-before .before in
-    let (v, x, f) = s .pre .3 in
-    emit-length (both-emit _ _ f (at-emit-key .emit-key .ensures) (at-rest-at .rest-at .ensures) (at-emit-value .emit-value .ensures .0 v x)) (f .room)
+    let m = c .before .before .before .before in
+    let k = m .before .before .before in
+    let (v, x, f) = k .before .before .before .before .before .before .before .before .before .pre .3 in
+    emit-length (both-emit _ _ f (k .before .before .before .emit-key .ensures) (k .rest-at .ensures) (m .emit-value .ensures .0 v x)) (f .room)
 
 returns : tie.Need-returns
 returns c =
-    let at-emit-value = c .before .before .before .before in
-    let at-rest-at = at-emit-value .before .before .before in
-    let at-emit-key = at-rest-at .before .before .before in
-    let at-before = at-emit-key .before .before .before .before .before in
-    let s = at-before .before in
-    let (v, x, f) = s .pre .3 in
-    ((λ u y. both-emit _ _ f (at-emit-key .emit-key .ensures) (at-rest-at .rest-at .ensures) (at-emit-value .emit-value .ensures .0 u y)), at-emit-value .emit-value .ensures .1)
+    let m = c .before .before .before .before in
+    let k = m .before .before .before in
+    let (v, x, f) = k .before .before .before .before .before .before .before .before .before .pre .3 in
+    ((λ u y. both-emit _ _ f (k .before .before .before .emit-key .ensures) (k .rest-at .ensures) (m .emit-value .ensures .0 u y)), m .emit-value .ensures .1)
 
 pub keep-member-spec : {M : Type 1} → statement M
 keep-member-spec =

@@ -1,5 +1,5 @@
 -- By the number of containers that may still open: a value calls on its entries one level deeper, each entry on its value.
-use Prim.Native.Nat.{_*_, _+_, _-_}
+use Prim.Native.Nat.{_*_, _+_, _-_, _<_, _≤_, ℕ}
 use Rattle.spell.proofs.Joining.{put-as}
 use Rattle.spell.proofs.Putting.{lend-start, put-length}
 use Rattle.text.specs.Bytes.{Bytes}
@@ -9,10 +9,9 @@ use Rattle.writer.proofs.Opening.{writes-inside, writes-room}
 use Rattle.writer.proofs.Writing.{entry-nameable, entry-puts, entry-room, leaving, left, name-fits, opened-at, opened-depth, opened-small, scalar-fits, scalar-puts, value-fits}
 use Rattle.writer.specs.Walks.{Going, Ready}
 use borrow.Author.Needs.{needs}
-use lib.ListN.{length, length-set}
+use lib.ListN.{length, length-set, set}
 use mathlib.Core.Path.{_∙_, _≡_, ap, refl}
 use native.Mathlib.Omega.{arith}
-use Prim.Native.Nat.{ℕ, _<_}
 use borrow.Fn.Kinds.{In}
 use borrow.Fn.PlainCycle.{Measures, is, falls, and}
 use Rattle.writer.proofs.put.put_entries.Reads as put-entries
@@ -100,8 +99,16 @@ put-entries-slice-write-out t c = let s = c .before .before .before .before in l
 put-entries-loop-holds : (t : ℕ) → put-entries-lts.Need-loop-holds (put-entries-claims t) (put-entries-at t) put-entries.Post put-entries-Inv-loop put-entries-μ-loop
 put-entries-loop-holds t c = let s = c .before .before .before .before in let (d, f, (x, r, l)) = s .pre .1 in (refl, λ x r. going-start (s .args .out .now) (let n = c .if1 .left in omega arith) (ready-long (s .args .out .now) (let n = c .if1 .left in omega arith) (s .pre .1 .2 .1) l) r)
 
+-- The entries left, and the room for the whole.
+entries-going : (t : ℕ) (c : put-entries-lts.At-loop (put-entries-claims t) (put-entries-at t) put-entries.Post put-entries-Inv-loop put-entries-μ-loop)
+    → let s = c .before .before .before .before .before in
+    let a = s .args in
+    let l = c .loop in
+    Going (a .text .now) (a .table .now) (a .depth) (a .b) (l .i) (l .x) (set (a .out .now) 0 (a .b)) (l .at) (l .out) (s .pre .1 .2 .0) × (length (s .pre .1 .2 .0) ≤ length (set (a .out .now) 0 (a .b)))
+entries-going t c = let (d, f, (x, r, l)) = c .before .before .before .before .before .pre .1 in (c .loop .inv .1 x r, simp length-set l)
+
 put-entries-sub-put-entry : (t : ℕ) → put-entries-lts.Need-sub-put-entry (put-entries-claims t) (put-entries-at t) put-entries.Post put-entries-Inv-loop put-entries-μ-loop
-put-entries-sub-put-entry t c = let s = c .before .before .before .before .before .before .before in let (d, f, (x, r, l)) = s .pre .1 in next-start (c .before .before .loop .inv .1 x r) (c .before .loop-test .taken) (simp length-set l)
+put-entries-sub-put-entry t c = let (g, l) = entries-going t (c .before .before) in next-start g (c .before .loop-test .taken) l
 
 put-entries-part-put-entry-start : (t : ℕ) → put-entries-lts.Need-part-put-entry-start (put-entries-claims t) (put-entries-at t) put-entries.Post put-entries-Inv-loop put-entries-μ-loop
 put-entries-part-put-entry-start t c = put-entries-sub-put-entry t c
@@ -111,12 +118,11 @@ put-entries-part-put-entry-end t c = search needs
 
 put-entries-put-entry-requires : (t : ℕ) → put-entries-lts.Need-put-entry-requires (put-entries-claims t) (put-entries-at t) put-entries.Post put-entries-Inv-loop put-entries-μ-loop
 put-entries-put-entry-requires t c κs =
-    let at-loop-test = c .before .before in
-    let at-loop = at-loop-test .before in
-    let at-before = at-loop .before .before .before .before in
-    let s = at-before .before in
-    let (d, f, (x, r, l)) = s .pre .1 in
-    (omega (arith, s .pre .0), (d, (entry (at-loop .loop .inv .1 x r), next-entry (at-loop .loop .inv .1 x r) (at-loop-test .loop-test .taken) (at-loop .loop .inv .0), next-fits (at-loop .loop .inv .1 x r) (at-loop-test .loop-test .taken) (simp length-set l))))
+    let k = c .before .before in
+    let h = k .before in
+    let p = h .before .before .before .before .before .pre in
+    let (g, l) = entries-going t h in
+    (omega (arith, p .0), (p .1 .0, (entry g, next-entry g (k .loop-test .taken) (h .loop .inv .0), next-fits g (k .loop-test .taken) l)))
 
 put-entries-add-at : (t : ℕ) → put-entries-lts.Need-add-at (put-entries-claims t) (put-entries-at t) put-entries.Post put-entries-Inv-loop put-entries-μ-loop
 put-entries-add-at t c = let s = c .before .before .before .before .before .before .before .before .before .before .before .before .before in let (d, f, (x, r, l)) = s .pre .1 in omega (arith, added (s .args .out .now) (c .before .before .before .before .before .before .before .before .loop .inv .1 x r) (c .before .before .before .before .before .before .before .loop-test .taken) l (c .before .before .before .before .put-entry .ensures .0 _ (next-entry (c .before .before .before .before .before .before .before .before .loop .inv .1 x r) (c .before .before .before .before .before .before .before .loop-test .taken) (c .before .before .before .before .before .before .before .before .loop .inv .0))))
@@ -129,40 +135,32 @@ put-entries-mark-behind-requires t c κs = c .before .before .before .before .be
 
 put-entries-slice-write-out-2 : (t : ℕ) → put-entries-lts.Need-slice-write-out-2 (put-entries-claims t) (put-entries-at t) put-entries.Post put-entries-Inv-loop put-entries-μ-loop
 put-entries-slice-write-out-2 t c =
-    let at-put-entry = c .before .before .before .before .before in
-    let at-loop-test = at-put-entry .before .before .before in
-    let at-loop = at-loop-test .before in
-    let at-before = at-loop .before .before .before .before in
-    let s = at-before .before in
-    let (d, f, (x, r, l)) = s .pre .1 in
-    wrote-room (at-loop .loop .inv .1 x r) (at-loop-test .loop-test .taken) (at-put-entry .put-entry .ensures .0 _ (next-entry (at-loop .loop .inv .1 x r) (at-loop-test .loop-test .taken) (at-loop .loop .inv .0))) (omega (arith, next-long (at-loop .loop .inv .1 x r) (at-loop-test .loop-test .taken) (simp length-set l), (at-put-entry .put-entry .ensures .0 _ (next-entry (at-loop .loop .inv .1 x r) (at-loop-test .loop-test .taken) (at-loop .loop .inv .0))) .count))
+    let m = c .before .before .before .before .before in
+    let k = m .before .before .before in
+    let v = k .before .loop .inv in
+    let (g, l) = entries-going t (k .before) in
+    wrote-room g (k .loop-test .taken) (m .put-entry .ensures .0 _ (next-entry g (k .loop-test .taken) (v .0))) (omega (arith, next-long g (k .loop-test .taken) l, (m .put-entry .ensures .0 _ (next-entry g (k .loop-test .taken) (v .0))) .count))
 
 put-entries-add-at-2 : (t : ℕ) → put-entries-lts.Need-add-at-2 (put-entries-claims t) (put-entries-at t) put-entries.Post put-entries-Inv-loop put-entries-μ-loop
 put-entries-add-at-2 t c = let s = c .before .before .before .before .before .before .before .before .before .before .before .before .before .before in let (d, f, (x, r, l)) = s .pre .1 in omega (arith, added (s .args .out .now) (c .before .before .before .before .before .before .before .before .before .loop .inv .1 x r) (c .before .before .before .before .before .before .before .before .loop-test .taken) l (c .before .before .before .before .before .put-entry .ensures .0 _ (next-entry (c .before .before .before .before .before .before .before .before .before .loop .inv .1 x r) (c .before .before .before .before .before .before .before .before .loop-test .taken) (c .before .before .before .before .before .before .before .before .before .loop .inv .0))))
 
 put-entries-follow-requires : (t : ℕ) → put-entries-lts.Need-follow-requires (put-entries-claims t) (put-entries-at t) put-entries.Post put-entries-Inv-loop put-entries-μ-loop
 put-entries-follow-requires t c κs =
-    let at-put-entry = c .before .before .before .before .before .before in
-    let at-loop-test = at-put-entry .before .before .before in
-    let at-loop = at-loop-test .before in
-    let at-before = at-loop .before .before .before .before in
-    let s = at-before .before in
-    let (d, f, (x, r, l)) = s .pre .1 in
-    entry-room (next-entry (at-loop .loop .inv .1 x r) (at-loop-test .loop-test .taken) (at-put-entry .put-entry .ensures .1 ∙ at-loop .loop .inv .0))
+    let m = c .before .before .before .before .before .before in
+    let h = m .before .before .before .before in
+    entry-room (next-entry (entries-going t h .0) (m .before .before .before .loop-test .taken) (m .put-entry .ensures .1 ∙ h .loop .inv .0))
 
 put-entries-loop-less : (t : ℕ) → put-entries-lts.Need-loop-less (put-entries-claims t) (put-entries-at t) put-entries.Post put-entries-Inv-loop put-entries-μ-loop
 put-entries-loop-less t c = search needs
 
 put-entries-loop-again : (t : ℕ) → put-entries-lts.Need-loop-again (put-entries-claims t) (put-entries-at t) put-entries.Post put-entries-Inv-loop put-entries-μ-loop
 put-entries-loop-again t c =
-    let at-mark-behind = c .before .before in
-    let at-put-entry = at-mark-behind .before .before .before .before .before in
-    let at-loop-test = at-put-entry .before .before .before in
-    let at-loop = at-loop-test .before in
-    let at-before = at-loop .before .before .before .before in
-    let s = at-before .before in
-    let (d, f, (x, r, l)) = s .pre .1 in
-    ((at-put-entry .put-entry .ensures .1 ∙ at-loop .loop .inv .0), λ y z. going-turn (at-loop .loop .inv .1 y z) (at-loop-test .loop-test .taken) (at-put-entry .put-entry .ensures .0 _ (next-entry (at-loop .loop .inv .1 y z) (at-loop-test .loop-test .taken) (at-loop .loop .inv .0))) (omega (arith, next-long (at-loop .loop .inv .1 x r) (at-loop-test .loop-test .taken) (simp length-set l), (at-put-entry .put-entry .ensures .0 _ (next-entry (at-loop .loop .inv .1 x r) (at-loop-test .loop-test .taken) (at-loop .loop .inv .0))) .count)) (at-put-entry .put-entry .ensures .1 ∙ at-loop .loop .inv .0) (at-mark-behind .mark-behind .ensures) (c .follow .ensures))
+    let m = c .before .before .before .before .before .before .before in
+    let k = m .before .before .before in
+    let v = k .before .loop .inv in
+    let (g, l) = entries-going t (k .before) in
+    let e = m .put-entry .ensures .1 ∙ v .0 in
+    (e, λ y z. going-turn (v .1 y z) (k .loop-test .taken) (m .put-entry .ensures .0 _ (next-entry (v .1 y z) (k .loop-test .taken) (v .0))) (omega (arith, next-long g (k .loop-test .taken) l, (m .put-entry .ensures .0 _ (next-entry g (k .loop-test .taken) (v .0))) .count)) e (c .before .before .mark-behind .ensures) (c .follow .ensures))
 
 put-entries-same-length-2 : (t : ℕ) → put-entries-lts.Need-same-length-2 (put-entries-claims t) (put-entries-at t) put-entries.Post put-entries-Inv-loop put-entries-μ-loop
 put-entries-same-length-2 t c = ap length (c .before .loop .inv .0)
@@ -189,34 +187,16 @@ put-entry-put-value-requires : (t : ℕ) → put-entry-lts.Need-put-value-requir
 put-entry-put-value-requires t c κs = let s = c .before .before .before .before .before .before .before .before .before .before in let (d, (e, x, l)) = s .pre .1 in (omega (arith, s .pre .0), (d, value-fits (c .before .before .before .before .put-name .ensures) (name-fits (s .args .out .now) x l) x l))
 
 put-entry-add-result : (t : ℕ) → put-entry-lts.Need-add-result (put-entry-claims t) (put-entry-at t) put-entry.Post
-put-entry-add-result t c =
-    let at-put-value = c .before .before .before .before in
-    let at-put-name = at-put-value .before .before .before .before .before in
-    let at-before = at-put-name .before .before .before .before .before in
-    let s = at-before .before in
-    let (d, (e, x, l)) = s .pre .1 in
-    omega (arith, l, (entry-puts (at-put-name .put-name .ensures) (name-fits (s .args .out .now) x l) (at-put-value .put-value .ensures .0) x) .count)
+put-entry-add-result t c = let s = c .before .before .before .before .before .before .before .before .before .before .before .before .before .before .before in let (d, (e, x, l)) = s .pre .1 in omega (arith, l, (entry-puts (c .before .before .before .before .before .before .before .before .before .put-name .ensures) (name-fits (s .args .out .now) x l) (c .before .before .before .before .put-value .ensures .0) x) .count)
 
 put-entry-same-length : (t : ℕ) → put-entry-lts.Need-same-length (put-entry-claims t) (put-entry-at t) put-entry.Post
 put-entry-same-length t c = ap length (c .before .before .before .before .put-value .ensures .1)
 
 put-entry-same-length-2 : (t : ℕ) → put-entry-lts.Need-same-length-2 (put-entry-claims t) (put-entry-at t) put-entry.Post
-put-entry-same-length-2 t c =
-    let at-put-value = c .before .before .before .before in
-    let at-put-name = at-put-value .before .before .before .before .before in
-    let at-before = at-put-name .before .before .before .before .before in
-    let s = at-before .before in
-    let (d, (e, x, l)) = s .pre .1 in
-    put-length (entry-puts (at-put-name .put-name .ensures) (name-fits (s .args .out .now) x l) (at-put-value .put-value .ensures .0) x) l
+put-entry-same-length-2 t c = let s = c .before .before .before .before .before .before .before .before .before .before .before .before .before .before .before in let (d, (e, x, l)) = s .pre .1 in put-length (entry-puts (c .before .before .before .before .before .before .before .before .before .put-name .ensures) (name-fits (s .args .out .now) x l) (c .before .before .before .before .put-value .ensures .0) x) l
 
 put-entry-returns : (t : ℕ) → put-entry-lts.Need-returns (put-entry-claims t) (put-entry-at t) put-entry.Post
-put-entry-returns t c =
-    let at-put-value = c .before .before .before .before in
-    let at-put-name = at-put-value .before .before .before .before .before in
-    let at-before = at-put-name .before .before .before .before .before in
-    let s = at-before .before in
-    let (d, (e, x, l)) = s .pre .1 in
-    ((λ e y. entry-puts (at-put-name .put-name .ensures) (name-fits (s .args .out .now) x l) (at-put-value .put-value .ensures .0) y), at-put-value .put-value .ensures .1)
+put-entry-returns t c = let s = c .before .before .before .before .before .before .before .before .before .before .before .before .before .before .before in let (d, (e, x, l)) = s .pre .1 in ((λ e y. entry-puts (c .before .before .before .before .before .before .before .before .before .put-name .ensures) (name-fits (s .args .out .now) x l) (c .before .before .before .before .put-value .ensures .0) y), c .before .before .before .before .put-value .ensures .1)
 
 put-value-start-requires : (t : ℕ) → put-value-lts.Need-start-requires (put-value-claims t) (put-value-at t) put-value.Post
 put-value-start-requires t c κs = let s = c .before .before .before .before in let (d, (x, y, l)) = s .pre .1 in writes-room y .0
@@ -231,39 +211,16 @@ put-value-behind-requires : (t : ℕ) → put-value-lts.Need-behind-requires (pu
 put-value-behind-requires t c κs = let s = c .before .before .before .before .before .before .before .before .before in let (d, (x, y, l)) = s .pre .1 in writes-room y .0
 
 put-value-put-scalar-requires : (t : ℕ) → put-value-lts.Need-put-scalar-requires (put-value-claims t) (put-value-at t) put-value.Post
-put-value-put-scalar-requires t c κs =
-    let at-behind = c .before in
-    let at-if1 = at-behind .before .before in
-    let at-is-open = at-if1 .before in
-    let at-start = at-is-open .before .before in
-    let at-before = at-start .before .before .before .before in
-    let s = at-before .before in
-    let (d, (x, y, l)) = s .pre .1 in
-    scalar-fits y (at-start .start .ensures) (at-behind .behind .ensures) (at-if1 .if1 .taken) (at-is-open .is-open .ensures) (s .args .out .now) l
+put-value-put-scalar-requires t c κs = let s = c .before .before .before .before .before .before .before .before .before .before .before in let (d, (x, y, l)) = s .pre .1 in scalar-fits y (c .before .before .before .before .before .before .start .ensures) (c .before .behind .ensures) (c .before .before .before .if1 .taken) (c .before .before .before .before .is-open .ensures) (s .args .out .now) l
 
 put-value-same-length : (t : ℕ) → put-value-lts.Need-same-length (put-value-claims t) (put-value-at t) put-value.Post
 put-value-same-length t c = refl
 
 put-value-same-length-2 : (t : ℕ) → put-value-lts.Need-same-length-2 (put-value-claims t) (put-value-at t) put-value.Post
-put-value-same-length-2 t c =
-    let at-put-scalar = c .before .before in
-    let at-behind = at-put-scalar .before .before in
-    let at-if1 = at-behind .before .before in
-    let at-is-open = at-if1 .before in
-    let at-start = at-is-open .before .before in
-    let at-before = at-start .before .before .before .before in
-    let s = at-before .before in
-    let (d, (x, y, l)) = s .pre .1 in
-    put-length (scalar-puts y (at-start .start .ensures) (at-behind .behind .ensures) (at-if1 .if1 .taken) (at-is-open .is-open .ensures) (at-put-scalar .put-scalar .ensures)) l
+put-value-same-length-2 t c = let s = c .before .before .before .before .before .before .before .before .before .before .before .before .before .before in let (d, (x, y, l)) = s .pre .1 in put-length (scalar-puts y (c .before .before .before .before .before .before .before .before .before .start .ensures) (c .before .before .before .before .behind .ensures) (c .before .before .before .before .before .before .if1 .taken) (c .before .before .before .before .before .before .before .is-open .ensures) (c .before .before .put-scalar .ensures)) l
 
 put-value-returns : (t : ℕ) → put-value-lts.Need-returns (put-value-claims t) (put-value-at t) put-value.Post
-put-value-returns t c =
-    let at-put-scalar = c .before .before in
-    let at-behind = at-put-scalar .before .before in
-    let at-if1 = at-behind .before .before in
-    let at-is-open = at-if1 .before in
-    let at-start = at-is-open .before .before in
-    ((λ x y. scalar-puts y (at-start .start .ensures) (at-behind .behind .ensures) (at-if1 .if1 .taken) (at-is-open .is-open .ensures) (at-put-scalar .put-scalar .ensures)), refl)
+put-value-returns t c = ((λ x y. scalar-puts y (c .before .before .before .before .before .before .before .before .before .start .ensures) (c .before .before .before .before .behind .ensures) (c .before .before .before .before .before .before .if1 .taken) (c .before .before .before .before .before .before .before .is-open .ensures) (c .before .before .put-scalar .ensures)), refl)
 
 put-value-enter-requires : (t : ℕ) → put-value-lts.Need-enter-requires (put-value-claims t) (put-value-at t) put-value.Post
 put-value-enter-requires t c κs = let s = c .before .before .before .before .before .before .before .before .before in let (d, (x, y, l)) = s .pre .1 in ((opened-at (c .before .before .before .before .start .ensures) (c .before .if1 .left) (c .before .before .is-open .ensures)), (_, x, y))
@@ -272,17 +229,7 @@ put-value-add-put-entries : (t : ℕ) → put-value-lts.Need-add-put-entries (pu
 put-value-add-put-entries t c = let s = c .before .before .before .before .before .before .before .before .before .before .before .before .before in let (d, (x, y, l)) = s .pre .1 in omega arith
 
 put-value-put-entries-requires : (t : ℕ) → put-value-lts.Need-put-entries-requires (put-value-claims t) (put-value-at t) put-value.Post
-put-value-put-entries-requires t c κs =
-    let at-enter = c .before .before .before .before in
-    let at-if1 = at-enter .before .before in
-    let at-is-open = at-if1 .before in
-    let at-start = at-is-open .before .before in
-    let at-before = at-start .before .before .before .before in
-    let s = at-before .before in
-    let (d, (x, y, l)) = s .pre .1 in
-    let o = (opened-at (at-start .start .ensures) (at-if1 .if1 .left) (at-is-open .is-open .ensures)) in
-    let n = opened-depth y o in
-    (omega (arith, s .pre .0), (omega arith, opened-small o, (x, at-enter .enter .ensures .0 _ x y, l)))
+put-value-put-entries-requires t c κs = let s = c .before .before .before .before .before .before .before .before .before .before .before .before .before .before in let (d, (x, y, l)) = s .pre .1 in let o = (opened-at (c .before .before .before .before .before .before .before .before .before .start .ensures) (c .before .before .before .before .before .before .if1 .left) (c .before .before .before .before .before .before .before .is-open .ensures)) in let n = opened-depth y o in (omega (arith, s .pre .0), (omega arith, opened-small o, (x, c .before .before .before .before .enter .ensures .0 _ x y, l)))
 
 put-value-add-leave : (t : ℕ) → put-value-lts.Need-add-leave (put-value-claims t) (put-value-at t) put-value.Post
 put-value-add-leave t c = let s = c .before .before .before .before .before .before .before .before .before .before .before .before .before .before .before .before .before .before .before .before in let (d, (x, y, l)) = s .pre .1 in let n = writes-room y .1 in omega arith
@@ -291,27 +238,13 @@ put-value-leave-requires : (t : ℕ) → put-value-lts.Need-leave-requires (put-
 put-value-leave-requires t c κs = leaving (c .before .before .before .before .before .before .before .before .before .before .enter .ensures .1) (c .before .before .before .before .before .put-entries .ensures .1)
 
 put-value-same-length-3 : (t : ℕ) → put-value-lts.Need-same-length-3 (put-value-claims t) (put-value-at t) put-value.Post
-put-value-same-length-3 t c =
-    let at-leave = c .before .before in
-    let at-put-entries = at-leave .before .before .before .before .before .before in
-    let at-enter = at-put-entries .before .before .before .before .before in
-    ap length (left (at-enter .enter .ensures .1) (at-put-entries .put-entries .ensures .1) (at-leave .leave .ensures))
+put-value-same-length-3 t c = ap length (left (c .before .before .before .before .before .before .before .before .before .before .before .before .before .enter .ensures .1) (c .before .before .before .before .before .before .before .before .put-entries .ensures .1) (c .before .before .leave .ensures))
 
 put-value-same-length-4 : (t : ℕ) → put-value-lts.Need-same-length-4 (put-value-claims t) (put-value-at t) put-value.Post
-put-value-same-length-4 t c =
-    let at-put-entries = c .before .before .before .before .before .before .before .before in
-    let at-enter = at-put-entries .before .before .before .before .before in
-    let at-before = at-enter .before .before .before .before .before .before .before .before .before in
-    let s = at-before .before in
-    let (d, (x, y, l)) = s .pre .1 in
-    put-length (at-put-entries .put-entries .ensures .0 x (at-enter .enter .ensures .0 _ x y)) l
+put-value-same-length-4 t c = let s = c .before .before .before .before .before .before .before .before .before .before .before .before .before .before .before .before .before .before .before .before .before .before .before in let (d, (x, y, l)) = s .pre .1 in put-length (c .before .before .before .before .before .before .before .before .put-entries .ensures .0 x (c .before .before .before .before .before .before .before .before .before .before .before .before .before .enter .ensures .0 _ x y)) l
 
 put-value-returns-2 : (t : ℕ) → put-value-lts.Need-returns-2 (put-value-claims t) (put-value-at t) put-value.Post
-put-value-returns-2 t c =
-    let at-leave = c .before .before in
-    let at-put-entries = at-leave .before .before .before .before .before .before in
-    let at-enter = at-put-entries .before .before .before .before .before in
-    ((λ x y. at-put-entries .put-entries .ensures .0 x (at-enter .enter .ensures .0 _ x y)), left (at-enter .enter .ensures .1) (at-put-entries .put-entries .ensures .1) (at-leave .leave .ensures))
+put-value-returns-2 t c = ((λ x y. c .before .before .before .before .before .before .before .before .put-entries .ensures .0 x (c .before .before .before .before .before .before .before .before .before .before .before .before .before .enter .ensures .0 _ x y)), left (c .before .before .before .before .before .before .before .before .before .before .before .before .before .enter .ensures .1) (c .before .before .before .before .before .before .before .before .put-entries .ensures .1) (c .before .before .leave .ensures))
 
 pub +put-entries+put-entry+put-value-spec : {M : Type 1} → statement M
 +put-entries+put-entry+put-value-spec =
