@@ -68,16 +68,8 @@ sort-returns-2 t c =
     all-sorted (s .args .up) (s .args .first) (s .args .n) (s .args .n / 2) (omega arith) (s .pre .1 .2) _ _ (c .before .before .before .before .before .before .before .before .before .before .sort .ensures .0) (c .before .before .before .before .before .before .before .before .before .before .sort .ensures .1) _ _ (c .before .before .before .before .before .before .sort2 .ensures .0) (c .before .before .before .before .before .before .sort2 .ensures .1) _ (c .before .before .merge .ensures)
 
 pub +sort-spec : {M : Type 1} → statement M
-+sort-spec = close μ-sort λ t. sort-lts.spec (claims t)
-    (sort-at t)
-    sort.Post
-    (sort-next-requires t)
-    (sort-same-length t)
-    (sort-returns t)
-    (sort-sort-requires t)
-    (sort-sub-sort t)
-    (sort-sort-requires-2 t)
-    (sort-sub-merge t)
-    (sort-merge-requires t)
-    (sort-same-length-2 t)
-    (sort-returns-2 t)
++sort-spec =
+    close μ-sort
+    λ t. sort-lts.spec (claims t) (sort-at t) sort.Post (sort-next-requires t) (sort-same-length t) (sort-returns t)
+    (sort-sort-requires t) (sort-sub-sort t) (sort-sort-requires-2 t) (sort-sub-merge t) (sort-merge-requires t)
+    (sort-same-length-2 t) (sort-returns-2 t)
