@@ -29,6 +29,10 @@ pub data Case : Type 0 where
   misses : Bytes → Bytes → ℕ → ℕ → Case
   -- A target with a patch gives these bytes.
   patches : Bytes → Bytes → Bytes → Case
+  -- With that target this patch is refused with a number at a place.
+  blames : Bytes → Bytes → ℕ → ℕ → Case
+  -- A text is refused as 12 where the output has so many bytes, since it needs so many.
+  needs : Bytes → ℕ → ℕ → Case
 
 -- Lent slices hold 7 everywhere at entry: tables of four words for each byte, outputs of just the length needed.
 abbrev tableFor : Bytes → Words
@@ -43,6 +47,8 @@ Holds (Case.writes t c) = (w : Words) × Writer t (tableFor t) (outputFor c) (su
 Holds (Case.finds t p c) = (start end : ℕ) × (w : Words) × PartFinder t (tableFor t) p start end w × (take (end - start) (drop start t) ≡ c)
 Holds (Case.misses t p n q) = (w : Words) × Finder t (tableFor t) p (refusal n 2 q) w
 Holds (Case.patches t p c) = (w x : Words) × Merger t (tableFor t) p (tableFor p) (outputFor c) (success (length c)) w x c
+Holds (Case.blames t p n q) = (w x : Words) × Merger t (tableFor t) p (tableFor p) [] (refusal n 2 q) w x []
+Holds (Case.needs t k n) = (w : Words) × Writer t (tableFor t) (replicate k 7) (refusal 12 3 n) w (replicate k 7)
 
 unfoldable pub starred : List Case
 starred =
@@ -61,6 +67,13 @@ starred =
     ∷ Case.patches (ascii "{}") (ascii "{\"a\":{\"bb\":{\"ccc\":null}}}") (ascii "{\"a\":{\"bb\":{}}}")
     ∷ []
 
+-- What no starred example holds: the input of a patch's refusal, and the place of 12.
+unfoldable pub edges : List Case
+edges =
+    Case.blames (ascii "{}") (ascii "{\"a\":1,\"a\":2}") 8 9
+    ∷ Case.needs (ascii "{\"b\":1.50,\"a\":\"\\n\"}") 5 24
+    ∷ []
+
 -- What the entries' functions give, and what is expected: an answer, and words or bytes.
 abbrev partText : Bytes → ℕ × ℕ × Words → Bytes
 partText t r = take (r .1 - r .0) (drop (r .0) t)
@@ -72,6 +85,8 @@ given (Case.writes t c) = let r = writer t (tableFor t) (outputFor c) in (r .0, 
 given (Case.finds t p c) = (success 0, partText t (partFinder t (tableFor t) p))
 given (Case.misses t p n q) = ((finder t (tableFor t) p) .0, [])
 given (Case.patches t p c) = let r = merger t (tableFor t) p (tableFor p) (outputFor c) in (r .0, r .3)
+given (Case.blames t p n q) = let r = merger t (tableFor t) p (tableFor p) [] in (r .0, r .3)
+given (Case.needs t k n) = let r = writer t (tableFor t) (replicate k 7) in (r .0, r .2)
 
 unfoldable expected : Case → Answer × List ℕ
 expected (Case.refuses t n p) = (refusal n 1 p, replicate (recordWords * length t) 0)
@@ -79,20 +94,34 @@ expected (Case.writes t c) = (success (length c), c)
 expected (Case.finds t p c) = (success 0, c)
 expected (Case.misses t p n q) = (refusal n 2 q, [])
 expected (Case.patches t p c) = (success (length c), c)
+expected (Case.blames t p n q) = (refusal n 2 q, [])
+expected (Case.needs t k n) = (refusal 12 3 n, replicate k 7)
+
+-- The outcome of a writer's and of a merge's function, with answer and output replaced by equal ones.
+as-written : {t o : Bytes} {r : Answer × List ℕ} → let g = writer t (tableFor t) o in (g .0, g .2) ≡ r → (w : Words) × Writer t (tableFor t) o (r .0) w (r .1)
+as-written {t} {o} e = let g = writer t (tableFor t) o in (g .1, subst (λ z. Writer t (tableFor t) o (z .0) (g .1) (z .1)) e (writer-right t (tableFor t) o))
+
+as-merged : {t p o : Bytes} {r : Answer × List ℕ} → let g = merger t (tableFor t) p (tableFor p) o in (g .0, g .3) ≡ r
+    → (w x : Words) × Merger t (tableFor t) p (tableFor p) o (r .0) w x (r .1)
+as-merged {t} {p} {o} e =
+    let g = merger t (tableFor t) p (tableFor p) o in
+    (g .1, g .2, subst (λ z. Merger t (tableFor t) p (tableFor p) o (z .0) (g .1) (g .2) (z .1)) e (merger-right t (tableFor t) p (tableFor p) o))
 
 holds : (c : Case) → given c ≡ expected c → Holds c
 unfolding given expected Holds
 holds (Case.refuses t n p) e = subst (ReaderGives t (tableFor t)) e (reader-right t (tableFor t))
-holds (Case.writes t c) e =
-    let r = writer t (tableFor t) (outputFor c) in
-    (r .1, subst (λ z. Writer t (tableFor t) (outputFor c) (z .0) (r .1) (z .1)) e (writer-right t (tableFor t) (outputFor c)))
+holds (Case.writes t c) e = as-written e
 holds (Case.finds t p c) e = let r = partFinder t (tableFor t) p in (r .0, r .1, r .2, partFinder-right t (tableFor t) p, ap (λ z. z .1) e)
 holds (Case.misses t p n q) e =
     let r = finder t (tableFor t) p in (r .1, subst (λ z. Finder t (tableFor t) p (z .0) (r .1)) e (finder-right t (tableFor t) p))
-holds (Case.patches t p c) e =
-    let r = merger t (tableFor t) p (tableFor p) (outputFor c) in
-    (r .1, r .2, subst (λ z. Merger t (tableFor t) p (tableFor p) (outputFor c) (z .0) (r .1) (r .2) (z .1)) e (merger-right t (tableFor t) p (tableFor p) (outputFor c)))
+holds (Case.patches t p c) e = as-merged e
+holds (Case.blames t p n q) e = as-merged e
+holds (Case.needs t k n) e = as-written e
 
 pub examples : Every Holds starred
 unfolding starred given expected read canon insert before put tree merge table checkPointer resolve
 examples = every Holds given expected holds starred refl
+
+pub edges-hold : Every Holds edges
+unfolding edges given expected read canon insert before put tree merge table checkPointer resolve
+edges-hold = every Holds given expected holds edges refl

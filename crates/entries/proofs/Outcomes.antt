@@ -1,8 +1,9 @@
 -- The outcome of each entry as a function: it fits the entry's definition, and no second outcome does.
-use Prim.Native.Nat.{_*_, _<_, suc, zero, ℕ}
+use Prim.Native.Nat.{_*_, _+_, _-_, _<_, suc, zero, ℕ}
 use Rattle.entries.proofs.Readings.{reading, reading-only, reading-right, ready-text, writing, writing-only, writing-right}
 use Rattle.entries.specs.Answer.{Answer, Read, Reading, refusal, success}
 use Rattle.entries.specs.Entries.{Finder, Merger, PartFinder, Reader, Writer}
+use Rattle.entries.specs.Parts.{PartOf}
 use Rattle.meaning.proofs.Demand2.{canonical-of, canonical-one, merge-keeps}
 use Rattle.meaning.proofs.Pointers.{Parsed, PointerCheck, check-malformed, check-pointer, checkPointer, pointer-checked}
 use Rattle.meaning.proofs.Reading.{text-keeps}
@@ -15,9 +16,10 @@ use Rattle.text.proofs.Demand3.{number-of-refusal}
 use Rattle.text.specs.Bytes.{Bytes}
 use Rattle.text.specs.Node.{Node}
 use Rattle.text.specs.Table.{Words, recordWords, size}
-use lib.ListN.{getD}
+use denote.Ref.{RefT, now, ptr}
+use lib.ListN.{drop, getD, take}
 use mathlib.Core.List.{[]}
-use mathlib.Core.Path.{_∙_, _≡_, ap, refl, sym}
+use mathlib.Core.Path.{_∙_, _≡_, ap, ap₂, refl, sym}
 use native.Mathlib.Omega.{arith}
 
 -- The canonical text of a tree.
@@ -176,6 +178,13 @@ partFinder-only (PartFinder.part x) = ap (λ z. part (z .0) (z .1)) (finder-only
 
 pub partFinder-one : {t p : Bytes} {w x y : Words} {a b c d : ℕ} → PartFinder t w p a b x → PartFinder t w p c d y → (a ≡ c) × (b ≡ d) × (x ≡ y)
 partFinder-one r s = let e = sym (partFinder-only r) ∙ partFinder-only s in (ap (λ z. z .0) e, ap (λ z. z .1) e, ap (λ z. z .2) e)
+
+-- So two slices that are the part found start at the same place of memory and hold the same bytes.
+pub part-one : {t r s : RefT Bytes} {p : Bytes} {w x y : Words} {a b c d : ℕ}
+    → PartFinder (now t) w p a b x → PartOf t a b r → PartFinder (now t) w p c d y → PartOf t c d s → (ptr r ≡ ptr s) × (now r ≡ now s)
+part-one {t} f r g s =
+    let (i, j, _) = partFinder-one f g in
+    (r .place ∙ ap (λ a. (ptr t .0, a + ptr t .1)) i ∙ sym (s .place), r .bytes ∙ ap₂ (λ a e. take (e - a) (drop a (now t))) i j ∙ sym (s .bytes))
 
 -- The merge.
 unfoldable pub mergerDone : Bytes → Node → Words → Read → Answer × Words × Words × Bytes

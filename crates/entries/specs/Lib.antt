@@ -1,3 +1,4 @@
 -- What each public entry promises.
 pub mod Answer
+pub mod Parts
 pub mod Entries

@@ -1,14 +1,13 @@
 // The look-up as a part of the text.
-ghost use Prim.Native.Nat.{_-_, ℕ};
+ghost use Prim.Native.Nat.{ℕ};
 ghost use Rattle.entries.specs.Entries.{PartFinder};
-ghost use lib.ListN.{drop, take};
-ghost use mathlib.Core.Path.{_≡_};
+ghost use Rattle.entries.specs.Parts.{PartOf};
 use lookup::part::Part;
 use lookup::part::part_text;
 
 // The bytes of the value that `pointer` names in `text`, without a copy; the empty part on any refusal.
 pub fn part<'a>(text: &'a [u8], table: &mut [u32], pointer: &[u8]) -> &'a [u8]
-    ensures part { λ s. ⌜ ((a : ℕ) × (e : ℕ) × PartFinder (now (text .entry)) (now (table .entry)) (now (pointer .entry)) a e (now (table .exit)) × (now s ≡ take (e - a) (drop a (now (text .entry))))) ⌝ }
+    ensures part { λ s. ⌜ ((a : ℕ) × (e : ℕ) × PartFinder (now (text .entry)) (now (table .entry)) (now (pointer .entry)) a e (now (table .exit)) × PartOf (text .entry) a e s) ⌝ }
 {
     let p = part_text(text, table, pointer);
     let start = p.start;

@@ -4,6 +4,7 @@ use Prim.Native.Nat.{_+_, _<_, _≤_, ℕ}
 use Rattle.names.proofs.Spelling.{closed, spelt}
 use Rattle.reader.specs.Repeats.{repeats, repeatsAll, repeatsMembers}
 use Rattle.reader.specs.Tokens.{EntryAt, Flat, Name, Opening, ScalarAt, ValueAt, brace, bracket, opened, opensContainer, putAt}
+use Rattle.scan.proofs.Numbers.{refusal-some}
 use Rattle.scan.proofs.Steps.{Like, Within, alike, differs, fail, fails, short, stands, step, within}
 use Rattle.scan.specs.Answers.{Judge, at, judging, loose, refused, shut}
 use Rattle.reader.specs.Numerals.{refusalOf}
@@ -148,7 +149,7 @@ module _ {t : Bytes} {i : ℕ} where
       record { good = λ z. (x .onward, x .bound, record { what = Node.number i (w .end) (decimalOf w); flat = flat-number i (w .end) (decimalOf w); same = x .same }); bad = λ f. absurd (f refl) }
 
   number-refused : {k p : ℕ} → Unnumbered t i k p → ScalarAt t i k p
-  number-refused x = record { good = λ z. absurd (x .some z); bad = λ f. x .same }
+  number-refused x = record { good = λ z. absurd (refusal-some (x .number) z); bad = λ f. x .same }
 
   pub number-refused-as : {g : Number} (r : Reach) {k p : ℕ} → NumberAt t i g → g ≡ Number.Refused k p → r ≡ refusalOf g i → ScalarAt t i (r .number) (r .at)
   number-refused-as r {k} {p} x e f =

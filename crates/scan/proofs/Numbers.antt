@@ -4,7 +4,7 @@ use Prim.Native.Nat.{_*_, _+_, _-_, _<_, _^_, _≤_, ℕ}
 use Rattle.scan.proofs.Numerals.{digit-settles, first-nonzero, first-zero, fraction-mark, mark-minus, mark-plus, minus-first, minus-short, minus-wrong, no-point, no-sign, onto-settled, onto-spoilt, point-digit, point-many, settle-fraction, sign-digit, spoilt-count, value-first, value-minus, whole-point, zero-whole}
 use Rattle.scan.proofs.Steps.{differs, fails, holds, stands}
 use Rattle.scan.specs.Answers.{at}
-use Rattle.scan.specs.Numbers.{NumberAt, Unnumbered, opensNumber}
+use Rattle.scan.specs.Numbers.{NumberAt, Refusal, Unnumbered, opensNumber}
 use Rattle.scan.specs.Numerals.{BehindMinus, BehindSign, DigitsAt, FractionAt, Onto, PartAt, Settled, Sound, Spoilt, WholeAt, behindFraction, behindMark, behindPower, behindSign, first, writtenOf}
 use Rattle.scan.specs.declared.exponent.Mantissa.{Mantissa}
 use Rattle.scan.specs.declared.number.Number.{Number}
@@ -62,9 +62,16 @@ module _ (t : Bytes) (i b : ℕ) (x : Bool) (e : b ≡ getD t i 0) (f : x ≡ is
     pub tail-end : Sound m → i ≤ length t → x ≡ false → (r : Number) → r ≡ Number.Decimal (writtenOf m false 0 i) → PartAt t (behindFraction m) i r
     tail-end z h g r y = subst⁻¹ (PartAt t (behindFraction m) i) y (settle-fraction t m z i h d (subst (λ b. T (not (isE b))) e (fails x (isE b) f g)))
 
+-- A refusal's number is not 0.
+pub refusal-some : {k : ℕ} → Refusal k → k ≡ 0 → ⊥
+refusal-some Refusal.short e = omega (arith, e)
+refusal-some Refusal.wrong e = omega (arith, e)
+refusal-some Refusal.digits e = omega (arith, e)
+refusal-some Refusal.power e = omega (arith, e)
+
 -- The digits behind the point.
 pub fraction-refused : {t : Bytes} {s : Bool → Numeral} {n i j d m k q : ℕ} → j ≡ q → m ≡ maxDigits + k → ((neg : Bool) → Spoilt t (s neg) i k q) → FractionAt t s n i j d m
-fraction-refused e f x = record { few = λ h. absurd (x true .some (omega arith)); many = λ h neg. spoilt-count e f (x neg) }
+fraction-refused e f x = record { few = λ h. absurd (refusal-some (x true .number) (omega arith)); many = λ h neg. spoilt-count e f (x neg) }
 
 fraction-onto : {t : Bytes} {s s′ : Bool → Numeral} {n i i′ j d m : ℕ} → i ≤ i′ → ((neg : Bool) → Onto t (s neg) i (s′ neg) i′) → FractionAt t s′ n i′ j d m → FractionAt t s n i j d m
 fraction-onto l x a =
@@ -169,20 +176,20 @@ opens-digit b e f = let z : opensNumber b ≡ isDigit b = rw (ne-eqb b 45 f) in 
 module _ (t : Bytes) (i : ℕ) (h : i < length t) where
   unsigned : (r : Number) → T (isDigit (getD t i 0)) → PartAt t (first false (getD t i 0)) (i + 1) r → NumberAt t i r
   unsigned (Number.Decimal w) d x = record { onward = omega (arith, x .onward); bound = x .bound; sized = x .sized; same = λ st. value-first t i h d st ∙ x .same i st }
-  unsigned (Number.Refused k q) d x = record { some = x .some; same = λ st. value-first t i h d st ∙ x .same i st }
+  unsigned (Number.Refused k q) d x = record { number = x .number; same = λ st. value-first t i h d st ∙ x .same i st }
 
   module _ (e : getD t i 0 ≡ code "-") where
     minus-cut : length t ≤ i + 1 → Unnumbered t i 3 (i + 1)
-    minus-cut l = record { some = λ e. absurd (omega arith); same = λ st. value-minus t i h e st ∙ minus-short t (i + 1) l .same i st }
+    minus-cut l = record { number = Refusal.short; same = λ st. value-minus t i h e st ∙ minus-short t (i + 1) l .same i st }
 
     module _ (j : i + 1 < length t) where
       minus-off : T (not (isDigit (getD t (i + 1) 0))) → Unnumbered t i 4 (i + 1)
-      minus-off d = record { some = λ e. absurd (omega arith); same = λ st. value-minus t i h e st ∙ minus-wrong t (i + 1) j d .same i st }
+      minus-off d = record { number = Refusal.wrong; same = λ st. value-minus t i h e st ∙ minus-wrong t (i + 1) j d .same i st }
 
       negative : (r : Number) → T (isDigit (getD t (i + 1) 0)) → PartAt t (first true (getD t (i + 1) 0)) (i + 1 + 1) r → NumberAt t i r
       negative (Number.Decimal w) d x =
           record { onward = omega (arith, x .onward); bound = x .bound; sized = x .sized; same = λ st. value-minus t i h e st ∙ minus-first t (i + 1) j d i st ∙ x .same i st }
-      negative (Number.Refused k q) d x = record { some = x .some; same = λ st. value-minus t i h e st ∙ minus-first t (i + 1) j d i st ∙ x .same i st }
+      negative (Number.Refused k q) d x = record { number = x .number; same = λ st. value-minus t i h e st ∙ minus-first t (i + 1) j d i st ∙ x .same i st }
 
 -- The same where the first digit stands at `j`, behind a minus or at once.
 module _ (t : Bytes) (i : ℕ) (h : i < length t) (o : opensNumber (getD t i 0) ≡ true) where

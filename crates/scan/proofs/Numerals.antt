@@ -3,7 +3,7 @@ use Prim.Native.Char.{code}
 use Prim.Native.Nat.{_+_, _-_, _<_, _≤_, suc, ℕ}
 use Rattle.scan.proofs.Steps.{Like, Within, alike, differs, fail, finish, short, step, within}
 use Rattle.scan.specs.Answers.{at, judging, loose, shut}
-use Rattle.scan.specs.Numbers.{Sized, decimalOf}
+use Rattle.scan.specs.Numbers.{Refusal, Sized, decimalOf}
 use Rattle.scan.specs.Numerals.{Onto, Settled, Sound, Spoilt, behindFraction, behindMark, behindPower, behindSign, first, passes, writtenOf}
 use Rattle.scan.specs.declared.exponent.Mantissa.{Mantissa}
 use Rattle.scan.specs.declared.number.Written.{Written}
@@ -27,7 +27,7 @@ pub onto-settled : {t : Bytes} {s s′ : Numeral} {i j : ℕ} {w : Written} → 
 onto-settled h x y = record { onward = omega (arith, y .onward); bound = y .bound; sized = y .sized; same = λ p st. x p st ∙ y .same p st }
 
 pub onto-spoilt : {t : Bytes} {s s′ : Numeral} {i j k q : ℕ} → Onto t s i s′ j → Spoilt t s′ j k q → Spoilt t s i k q
-onto-spoilt x y = record { some = y .some; same = λ p st. x p st ∙ y .same p st }
+onto-spoilt x y = record { number = y .number; same = λ p st. x p st ∙ y .same p st }
 
 -- A refusal that a count of digits stands for.
 pub spoilt-count : {t : Bytes} {s : Numeral} {i k q j m : ℕ} → j ≡ q → m ≡ maxDigits + k → Spoilt t s i k q → Spoilt t s i (m - maxDigits) j
@@ -150,7 +150,7 @@ module _ (t : Bytes) (i : ℕ) (h : i < length t) where
 
     pub whole-many : (neg : Bool) (c n : ℕ) → maxDigits ≤ n → Spoilt t (Numeral.whole neg c n) i 6 i
     unfolding move numberMove numberOf
-    whole-many neg c n l = record { some = λ e. absurd (omega arith); same = λ p st. fail t (State.number (Numeral.whole neg c n) p st) i h (Fault.yes d (Fault.ask (digits-shut (suc n) (omega arith)))) }
+    whole-many neg c n l = record { number = Refusal.digits; same = λ p st. fail t (State.number (Numeral.whole neg c n) p st) i h (Fault.yes d (Fault.ask (digits-shut (suc n) (omega arith)))) }
 
     pub fraction-digit : (neg : Bool) (c n f : ℕ) → n < maxDigits → Onto t (Numeral.fraction neg c n f) i (Numeral.fraction neg (andDigit c here) (n + 1) (f + 1)) (i + 1)
     unfolding move numberMove
@@ -159,7 +159,7 @@ module _ (t : Bytes) (i : ℕ) (h : i < length t) where
 
     pub fraction-many : (neg : Bool) (c n f : ℕ) → maxDigits ≤ n → Spoilt t (Numeral.fraction neg c n f) i 6 i
     unfolding move numberMove numberOf
-    fraction-many neg c n f l = record { some = λ e. absurd (omega arith); same = λ p st. fail t (State.number (Numeral.fraction neg c n f) p st) i h (Fault.yes d (Fault.ask (digits-shut (suc n) (omega arith)))) }
+    fraction-many neg c n f l = record { number = Refusal.digits; same = λ p st. fail t (State.number (Numeral.fraction neg c n f) p st) i h (Fault.yes d (Fault.ask (digits-shut (suc n) (omega arith)))) }
 
     pub point-digit : (neg : Bool) (c n : ℕ) → Onto t (Numeral.point neg c n) i (Numeral.fraction neg (andDigit c here) (n + 1) 1) (i + 1)
     unfolding move numberMove
@@ -186,7 +186,7 @@ module _ (t : Bytes) (i : ℕ) (h : i < length t) where
 
       pub power-many : T (not (passes m down (andDigit e here) k)) → Spoilt t (behindPower m down e k) i 7 i
       unfolding move numberMove passes judging numberOf
-      power-many q = record { some = λ e. absurd (omega arith); same = λ p st. fail t (State.number (behindPower m down e k) p st) i h (Fault.yes d (by (State.number (behindPower m down (andDigit e here) (suc k)) p st) (ltb k 2) q)) }
+      power-many q = record { number = Refusal.power; same = λ p st. fail t (State.number (behindPower m down e k) p st) i h (Fault.yes d (by (State.number (behindPower m down (andDigit e here) (suc k)) p st) (ltb k 2) q)) }
         where
           by : (on : State) (x : Bool) → T (not (x || house gate)) → Fault loose (Move.when x (Move.go on) (Move.ask gate on)) 7
           by on true q = absurd q
@@ -220,7 +220,7 @@ module _ (t : Bytes) (i : ℕ) (h : i < length t) where
   pub point-many : (neg : Bool) (c n : ℕ) → here ≡ code "." → maxDigits ≤ n → Spoilt t (Numeral.whole neg c n) i 6 i
   unfolding move numberMove numberOf
   point-many neg c n e l =
-      record { some = λ e. absurd (omega arith); same = λ p st. fail t (State.number (Numeral.whole neg c n) p st) i h (subst⁻¹ (λ b. Fault loose (numberMove (Numeral.whole neg c n) p st i b) 6) e (Fault.no tt (Fault.yes tt (Fault.ask (digits-shut (suc n) (omega arith)))))) }
+      record { number = Refusal.digits; same = λ p st. fail t (State.number (Numeral.whole neg c n) p st) i h (subst⁻¹ (λ b. Fault loose (numberMove (Numeral.whole neg c n) p st i b) 6) e (Fault.no tt (Fault.yes tt (Fault.ask (digits-shut (suc n) (omega arith)))))) }
 
   pub fraction-mark : (m : Mantissa) → T (not (isDigit here)) → T (isE here) → Onto t (behindFraction m) i (behindMark m) (i + 1)
   unfolding move numberMove
@@ -238,11 +238,11 @@ module _ (t : Bytes) (i : ℕ) (h : i < length t) where
   module _ (d : T (not (isDigit here))) where
     pub point-wrong : (neg : Bool) (c n : ℕ) → Spoilt t (Numeral.point neg c n) i 4 i
     unfolding move numberMove
-    point-wrong neg c n = record { some = λ e. absurd (omega arith); same = λ p st. fail t (State.number (Numeral.point neg c n) p st) i h (Fault.no d Fault.bad) }
+    point-wrong neg c n = record { number = Refusal.wrong; same = λ p st. fail t (State.number (Numeral.point neg c n) p st) i h (Fault.no d Fault.bad) }
 
     pub sign-wrong : (m : Mantissa) (down : Bool) → Spoilt t (behindSign m down) i 4 i
     unfolding move numberMove
-    sign-wrong m down = record { some = λ e. absurd (omega arith); same = λ p st. fail t (State.number (behindSign m down) p st) i h (Fault.no d Fault.bad) }
+    sign-wrong m down = record { number = Refusal.wrong; same = λ p st. fail t (State.number (behindSign m down) p st) i h (Fault.no d Fault.bad) }
 
     not-nonzero : T (not (isNonzero here))
     not-nonzero = not-T (isNonzero here) λ q.
@@ -255,12 +255,12 @@ module _ (t : Bytes) (i : ℕ) (h : i < length t) where
 
     pub minus-wrong : Spoilt t Numeral.minus i 4 i
     unfolding move numberMove
-    minus-wrong = record { some = λ e. absurd (omega arith); same = λ p st. fail t (State.number Numeral.minus p st) i h (Fault.no not-nonzero (Fault.no (differs here 48 not-nought) Fault.bad)) }
+    minus-wrong = record { number = Refusal.wrong; same = λ p st. fail t (State.number Numeral.minus p st) i h (Fault.no not-nonzero (Fault.no (differs here 48 not-nought) Fault.bad)) }
 
 -- The end of the text inside a number.
 module _ (t : Bytes) (i : ℕ) (h : length t ≤ i) where
   cut : (s : Numeral) → ((p : ℕ) (st : Stack) → T (not (isDone (State.number s p st)))) → Spoilt t s i 3 i
-  cut s o = record { some = λ e. absurd (omega arith); same = λ p st. short t (State.number s p st) i h (o p st) }
+  cut s o = record { number = Refusal.short; same = λ p st. short t (State.number s p st) i h (o p st) }
 
   pub minus-short : Spoilt t Numeral.minus i 3 i
   unfolding isDone

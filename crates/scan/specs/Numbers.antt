@@ -36,11 +36,21 @@ pub record Numbered (t : Bytes) (i : ℕ) (w : Written) : Type 0 where
   pub sized : Sized w
   pub same : (st : Stack) → at t (State.value st) i ≡ at t (State.after st (Node.number i (w .end) (decimalOf w))) (w .end)
 
--- The value that begins at `i` is refused.
+-- 01's numbers of the refusals of a number: it ends too early, a byte can't stand there, it has too many digits, or its
+-- exponent has, or is out of range.
+pub data Refusal : ℕ → Type 0 where
+  short : Refusal 3
+  wrong : Refusal 4
+  digits : Refusal 6
+  power : Refusal 7
+
+-- The value that begins at `i` is refused as `k` at the place `p`.
 pub record Unnumbered (t : Bytes) (i k p : ℕ) : Type 0 where
-  pub some : k ≡ 0 → ⊥
+  pub number : Refusal k
   pub same : (st : Stack) → at t (State.value st) i ≡ refused k p
 
+-- What each case of the leaf's answer stands for: the decimal of the number that is written there, or 01's number and
+-- place of its refusal.
 abbrev pub NumberAt : Bytes → ℕ → Number → Type 0
 NumberAt t i (Number.Decimal w) = Numbered t i w
 NumberAt t i (Number.Refused k p) = Unnumbered t i k p

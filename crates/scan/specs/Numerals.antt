@@ -2,7 +2,7 @@
 use Prim.Native.Char.{code}
 use Prim.Native.Nat.{_+_, _-_, _<_, _^_, _≤_, suc, ℕ}
 use Rattle.scan.specs.Answers.{at, refused}
-use Rattle.scan.specs.Numbers.{Sized, decimalOf}
+use Rattle.scan.specs.Numbers.{Refusal, Sized, decimalOf}
 use Rattle.scan.specs.declared.number.Number.{Number}
 use Rattle.scan.specs.declared.number.Written.{Written}
 use Rattle.scan.specs.declared.exponent.Mantissa.{Mantissa}
@@ -65,7 +65,7 @@ pub record Settled (t : Bytes) (s : Numeral) (i : ℕ) (w : Written) : Type 0 wh
 
 -- It is refused.
 pub record Spoilt (t : Bytes) (s : Numeral) (i k q : ℕ) : Type 0 where
-  pub some : k ≡ 0 → ⊥
+  pub number : Refusal k
   pub same : (p : ℕ) (st : Stack) → at t (State.number s p st) i ≡ refused k q
 
 abbrev pub PartAt : Bytes → Numeral → ℕ → Number → Type 0
