@@ -3,4 +3,5 @@ pub mod Readings
 pub mod Outcomes
 pub mod Promises
 pub mod Slices
+pub mod Demands
 pub mod Examples
