@@ -61,7 +61,6 @@ pub record Demand1 : Type 0 where
   pub find-any : (t : Bytes) (w : Words) (p : Bytes) → Sole (FinderGives t w p)
   pub part-any : (t : Bytes) (w : Words) (p : Bytes) → Sole (PartGives t w p)
   pub merge-any : (t : Bytes) (w : Words) (p : Bytes) (x : Words) (o : Bytes) → Sole (MergerGives t w p x o)
-
   -- "It ends, stays inside the lent memory and asks nothing of the caller first (no `requires`)": of the code this is
   -- checked with each function; of the entries, every slice keeps its length, and a part lies inside the text.
   pub inside : {t p o o′ : Bytes} {w x w′ x′ : Words} {a : Answer} {b e : ℕ}
@@ -70,19 +69,15 @@ pub record Demand1 : Type 0 where
       × (Finder t w p a w′ → length w′ ≡ length w)
       × (PartFinder t w p b e w′ → (b ≤ e) × (e ≤ length t))
       × (Merger t w p x o a w′ x′ o′ → (length w′ ≡ length w) × (length x′ ≡ length x) × (length o′ ≡ length o))
-
   -- "A refusal gives its number, the input at fault and the place,"
   pub told : {t p o o′ : Bytes} {w x w′ x′ : Words} {a : Answer}
       → (Reader t w a w′ → Answers 1 a) × (Writer t w o a w′ o′ → Answers 1 a) × (Finder t w p a w′ → Answers 1 a) × (Merger t w p x o a w′ x′ o′ → Answers 2 a)
-
   -- "or only the empty part from an entry that hands back a part;"
   pub empty : {t p : Bytes} {w w′ w″ : Words} {b e n i q : ℕ} → PartFinder t w p b e w″
       → (Finder t w p (refusal n i q) w′ → 0 < n → (b ≡ 0) × (e ≡ 0)) × (Finder t w p (success n) w′ → b < e)
-
   -- "an output buffer is then as at entry,"
   pub untouched : {t p o o′ : Bytes} {w x w′ x′ : Words} {n i q : ℕ} → 0 < n
       → (Writer t w o (refusal n i q) w′ o′ → o′ ≡ o) × (Merger t w p x o (refusal n i q) w′ x′ o′ → o′ ≡ o)
-
   -- "and a record table holds what document 01 fixes."
   pub tables : {t p o o′ : Bytes} {w x w′ x′ : Words} {n i q : ℕ} → 0 < n
       → (Reader t w (refusal n i q) w′ → Left t w n w′)
@@ -103,11 +98,9 @@ pub record Demand2 : Type 0 where
       → (v : Node) × (ts : List Token) × Text house t v × Pointer p ts × (resolve ts 0 v ≡ Seen.lost q)
   pub merger : {t p o o′ : Bytes} {w x w′ x′ : Words} {n : ℕ} → Merger t w p x o (success n) w′ x′ o′
       → (v u r : Node) × Text house t v × Text house p u × Canonical (mean (merge (tree v) (tree u))) (take n o′) × Text house (take n o′) r
-
   -- "Two accepted texts have the same canonical bytes exactly when they mean the same,"
   pub same : {s t o o′ p p′ : Bytes} {w w′ x x′ : Words} {m n : ℕ} {v u : Node} → Writer s w o (success m) w′ o′ → Writer t x p (success n) x′ p′
       → Text house s v → Text house t u → (take m o′ ≡ take n p′) ↔ (meaning v ≡ meaning u)
-
   -- "and canonical bytes read back to that meaning whenever the writer gives them."
   pub back : {t o o′ : Bytes} {w w′ : Words} {n : ℕ} {v : Node} → Writer t w o (success n) w′ o′ → Text house t v
       → (x : Words) → recordWords * length (take n o′) ≤ length x
@@ -118,15 +111,12 @@ pub record Demand3 (t : Bytes) (w : Words) (short : length t ≤ maxText) (wide 
   -- "the reader accepts exactly the texts of the grammar, written down apart from any reader, within 64 open containers,
   -- 01's number limits, ASCII, and no object with one name twice;"
   pub accepts : ((n : ℕ) × (x : Words) × Reader t w (success n) x) ↔ ((v : Node) × Text house t v)
-
   -- "each has one meaning only."
   pub one : {v u : Node} → Text house t v → Text house t u → meaning v ≡ meaning u
-
   -- "For every other text the place is the length of its longest prefix that some continuation, of any length, would make
   -- acceptable,"
   pub other : ((v : Node) → ¬ (Text house t v)) → (n p : ℕ) × (x : Words) × Reader t w (refusal n 1 p) x
   pub place : {n p : ℕ} {x : Words} → Reader t w (refusal n 1 p) x → Longest (Viable house) t p
-
   -- "and the number is the one 01 gives there."
   pub number : (n p : ℕ) → ((x : Words) × Reader t w (refusal n 1 p) x) ↔ Verdict house t (Outcome.refused n p)
 
