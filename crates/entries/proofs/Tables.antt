@@ -9,7 +9,7 @@ use Rattle.entries.specs.Entries.{Finder, Merger, PartFinder, Reader, Wr
 use Rattle.text.specs.Bytes.{Bytes}
 use Rattle.text.specs.Table.{Words, recordWords, table}
 use lib.ListN.{length, replicate}
-use mathlib.Core.Path.{_∙_, _≡_}
+use mathlib.Core.Path.{_∙_, _≡_, ap}
 use native.Mathlib.Omega.{arith}
 
 -- The same refusal or the same value, with another table at exit.
@@ -24,26 +24,24 @@ exchanged {x = x} e (Reading.narrow l m) = (x, Reading.narrow l (omega arith))
 exchanged {t = t} {x = x} e (Reading.refused l m v) = (over (replicate (recordWords * length t) 0) x, Reading.refused l (omega arith) v)
 exchanged {x = x} e (Reading.accepted {v = v} l m y) = (over (table v) x, Reading.accepted l (omega arith) y)
 
--- And written with any output of that length.
-rewritten : {c o q o′ : Bytes} {a : Answer} → length o ≡ length q → Writing c o a o′ → (q′ : Bytes) × Writing c q a q′
-rewritten {q = q} e (Writing.long h) = (q, Writing.long h)
-rewritten {q = q} e (Writing.narrow l m) = (q, Writing.narrow l (omega arith))
-rewritten {c} {q = q} e (Writing.written l m) = (over c q, Writing.written l (omega arith))
+-- And written with any output of that length; the same output then holds the same.
+rewritten : {c o q o′ : Bytes} {a : Answer} → length o ≡ length q → Writing c o a o′ → (q′ : Bytes) × Writing c q a q′ × (o ≡ q → o′ ≡ q′)
+rewritten {q = q} e (Writing.long h) = (q, Writing.long h, λ f. f)
+rewritten {q = q} e (Writing.narrow l m) = (q, Writing.narrow l (omega arith), λ f. f)
+rewritten {c} {q = q} e (Writing.written l m) = (over c q, Writing.written l (omega arith), ap (over c))
 
 pub reader-table : {t : Bytes} {w x w′ x′ : Words} {a b : Answer} → length w ≡ length x → Reader t w a w′ → Reader t x b x′ → a ≡ b
 reader-table e (Reader.stop r) s = let (_, y) = exchanged e r in (reader-one (Reader.stop y) s) .0
 reader-table e (Reader.done r) s = let (_, y) = exchanged e r in (reader-one (Reader.done y) s) .0
 
-pub writer-table : {t o p q : Bytes} {w x w′ x′ : Words} {a b : Answer}
-    → length w ≡ length x → Writer t w o a w′ p → Writer t x o b x′ q → (a ≡ b) × (p ≡ q)
-writer-table e (Writer.stop r) s = let (_, y) = exchanged e r in let f = writer-one (Writer.stop y) s in (f .0, f .2)
-writer-table e (Writer.done r c z) s = let (_, y) = exchanged e r in let f = writer-one (Writer.done y c z) s in (f .0, f .2)
-
-pub writer-lengths : {t o q o′ q′ : Bytes} {w x w′ x′ : Words} {a b : Answer}
-    → length w ≡ length x → length o ≡ length q → Writer t w o a w′ o′ → Writer t x q b x′ q′ → a ≡ b
-writer-lengths e f (Writer.stop r) s = let (_, y) = exchanged e r in (writer-one (Writer.stop y) s) .0
-writer-lengths e f (Writer.done r c z) s =
-    let (_, y) = exchanged e r in let (_, u) = rewritten f z in (writer-one (Writer.done y c u) s) .0
+pub writer-table : {t o q o′ q′ : Bytes} {w x w′ x′ : Words} {a b : Answer} → length w ≡ length x → length o ≡ length q
+    → Writer t w o a w′ o′ → Writer t x q b x′ q′ → (a ≡ b) × (o ≡ q → o′ ≡ q′)
+writer-table e f (Writer.stop r) s = let (_, y) = exchanged e r in let g = writer-one (Writer.stop y) s in (g .0, λ h. h ∙ g .2)
+writer-table e f (Writer.done r c z) s =
+    let (_, y) = exchanged e r in
+    let (_, u, k) = rewritten f z in
+    let g = writer-one (Writer.done y c u) s in
+    (g .0, λ h. k h ∙ g .2)
 
 finder-exchanged : {t p : Bytes} {w x w′ : Words} {a : Answer} → length w ≡ length x → Finder t w p a w′ → (x′ : Words) × Finder t x p a x′
 finder-exchanged e (Finder.stop r) = let (x′, y) = exchanged e r in (x′, Finder.stop y)
@@ -67,17 +65,14 @@ partFinder-table e (PartFinder.part (Finder.found r c h)) s =
     (f .0 ∙ g .0, f .1 ∙ g .1)
 
 -- Both tables of a merge.
-pub merger-table : {t p o c d : Bytes} {w x w₁ x₁ w₂ x₂ w₃ x₃ : Words} {a b : Answer} → length w ≡ length w₁ → length x ≡ length x₁
-    → Merger t w p x o a w₂ x₂ c → Merger t w₁ p x₁ o b w₃ x₃ d → (a ≡ b) × (c ≡ d)
-merger-table e f (Merger.stop r) s = let (_, y) = exchanged e r in let g = merger-one (Merger.stop y) s in (g .0, g .3)
-merger-table e f (Merger.stopPatch r q) s =
-    let (_, y) = exchanged e r in let (_, z) = exchanged f q in let g = merger-one (Merger.stopPatch y z) s in (g .0, g .3)
-merger-table e f (Merger.done r q c u) s =
-    let (_, y) = exchanged e r in let (_, z) = exchanged f q in let g = merger-one (Merger.done y z c u) s in (g .0, g .3)
-
-pub merger-lengths : {t p o q o′ q′ : Bytes} {w x w₁ x₁ w₂ x₂ w₃ x₃ : Words} {a b : Answer} → length w ≡ length w₁ → length x ≡ length x₁ → length o ≡ length q
-    → Merger t w p x o a w₂ x₂ o′ → Merger t w₁ p x₁ q b w₃ x₃ q′ → a ≡ b
-merger-lengths e f g (Merger.stop r) s = let (_, y) = exchanged e r in (merger-one (Merger.stop y) s) .0
-merger-lengths e f g (Merger.stopPatch r u) s = let (_, y) = exchanged e r in let (_, z) = exchanged f u in (merger-one (Merger.stopPatch y z) s) .0
-merger-lengths e f g (Merger.done r u c v) s =
-    let (_, y) = exchanged e r in let (_, z) = exchanged f u in let (_, n) = rewritten g v in (merger-one (Merger.done y z c n) s) .0
+pub merger-table : {t p o q o′ q′ : Bytes} {w x w₁ x₁ w₂ x₂ w₃ x₃ : Words} {a b : Answer} → length w ≡ length w₁ → length x ≡ length x₁ → length o ≡ length q
+    → Merger t w p x o a w₂ x₂ o′ → Merger t w₁ p x₁ q b w₃ x₃ q′ → (a ≡ b) × (o ≡ q → o′ ≡ q′)
+merger-table e f l (Merger.stop r) s = let (_, y) = exchanged e r in let g = merger-one (Merger.stop y) s in (g .0, λ h. h ∙ g .3)
+merger-table e f l (Merger.stopPatch r u) s =
+    let (_, y) = exchanged e r in let (_, z) = exchanged f u in let g = merger-one (Merger.stopPatch y z) s in (g .0, λ h. h ∙ g .3)
+merger-table e f l (Merger.done r u c v) s =
+    let (_, y) = exchanged e r in
+    let (_, z) = exchanged f u in
+    let (_, n, k) = rewritten l v in
+    let g = merger-one (Merger.done y z c n) s in
+    (g .0, λ h. k h ∙ g .3)
