@@ -83,8 +83,9 @@ typedef struct {
  * Where several refusals apply, 1 goes before 2, and 2 before 3 to 9, of which only one ever applies. */
 nib_answer nib_read(const uint8_t *text, size_t text_len, uint32_t *table, size_t table_words);
 
-/* Writes the canonical text of what a text means to the front of the output: texts that mean the same give the same
- * bytes, and texts that don't give different ones. It is itself a text, whose canonical text is itself.
+/* Writes the canonical text of what a text means to the front of the output. Where neither call is refused, texts that
+ * mean the same give the same bytes, and texts that don't give different ones. (Of two texts that mean the same one may
+ * be too long.) The canonical text is itself a text, whose canonical text is itself.
  * - There is no whitespace, and the members of each object stand in the order of their names, by 16-bit units: the
  *   first difference decides, and a proper prefix comes first.
  * - Zero is 0. Another number is - where negative, its digits without a point and without zeros at either end, and,
@@ -145,9 +146,9 @@ nib_part nib_part_of(const uint8_t *text, size_t text_len, uint32_t *table, size
  *   there is none. The members that the patch doesn't name stay as they are, null or not.
  * - So a null that is reached in the patch through objects only never stands in the result, be there a target for it or
  *   not; but arrays of the patch are taken as they are, with any null inside them.
- * Names are the same where their units are, escapes resolved, however each text spells them. Targets that mean the
- * same, with patches that mean the same, give the same bytes. Merging a patch into its own result gives that result
- * again. The result is no deeper than the deeper of the two texts.
+ * Names are the same where their units are, escapes resolved, however each text spells them. Where neither call is
+ * refused, targets that mean the same, with patches that mean the same, give the same bytes, and merging a patch into
+ * its own result gives that result again. The result is no deeper than the deeper of the two texts.
  *
  * Where several refusals apply, those of nib_read for the target go first, with input 1, then those of nib_read for the
  * patch, with input 2, then 13, then 12, both with input 3 and the whole length needed as place; so 13 is given even

@@ -2,7 +2,8 @@
 
 use crate::{raw, room, Input, Refusal};
 
-/// The canonical text of what a text means: texts that mean the same give the same bytes, and others different ones.
+/// The canonical text of what a text means: where neither is refused, texts that mean the same give the same bytes, and
+/// others different ones.
 ///
 /// ```
 /// let text = nibrocate::canonical(br#"{ "b": 1.50, "a": "\n" }"#)?;
