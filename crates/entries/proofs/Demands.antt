@@ -2,10 +2,10 @@
 -- citing what the other files prove: whoever believes the definitions in `specs/` of text, meaning and entries has
 -- nothing else to read. That the code keeps to the entries is what its public functions ensure.
 use Prim.Native.Nat.{_*_, _<_, _≤_, ℕ}
-use Rattle.entries.proofs.Outcomes.{FinderGives, MergerGives, PartGives, ReaderGives, WriterGives, finder, finder-only, finder-right, merger, merger-only, merger-right, partFinder, partFinder-one, partFinder-only, partFinder-right, reader, reader-only, reader-right, writer, writer-only, writer-right}
+use Rattle.entries.proofs.Outcomes.{finder, finder-only, finder-right, merger, merger-only, merger-right, partFinder, partFinder-one, partFinder-only, partFinder-right, reader, reader-only, reader-right, writer, writer-only, writer-right}
 use Rattle.entries.proofs.Promises.{Merged, Written, accepts, merged-text, merger-refused, refuses, writer-refused, writes-back, writes-same, written-text}
 use Rattle.entries.proofs.Readings.{ready-text, stop-number}
-use Rattle.entries.proofs.Slices.{finder-length, merger-length, part-inside, part-some, reader-length, writer-length}
+use Rattle.entries.proofs.Slices.{finder-length, merger-length, part-inside, part-some, partFinder-length, reader-length, writer-length}
 use Rattle.entries.specs.Answer.{Answer, Read, Reading, Writing, maxText, over, refusal, success}
 use Rattle.entries.specs.Entries.{Finder, Merger, PartFinder, Reader, Writer}
 use Rattle.meaning.proofs.Demand2.{merge-back, text-back}
@@ -56,18 +56,18 @@ pub data LeftBoth (t : Bytes) (w : Words) (p : Bytes) (x : Words) (n : ℕ) : �
 
 pub record Demand1 : Type 0 where
   -- "Any bytes may be handed to any public entry."
-  pub read-any : (t : Bytes) (w : Words) → Sole (ReaderGives t w)
-  pub write-any : (t : Bytes) (w : Words) (o : Bytes) → Sole (WriterGives t w o)
-  pub find-any : (t : Bytes) (w : Words) (p : Bytes) → Sole (FinderGives t w p)
-  pub part-any : (t : Bytes) (w : Words) (p : Bytes) → Sole (PartGives t w p)
-  pub merge-any : (t : Bytes) (w : Words) (p : Bytes) (x : Words) (o : Bytes) → Sole (MergerGives t w p x o)
+  pub read-any : (t : Bytes) (w : Words) → Sole (λ ((a, w′) : Answer × Words). Reader t w a w′)
+  pub write-any : (t : Bytes) (w : Words) (o : Bytes) → Sole (λ ((a, w′, o′) : Answer × Words × Bytes). Writer t w o a w′ o′)
+  pub find-any : (t : Bytes) (w : Words) (p : Bytes) → Sole (λ ((a, w′) : Answer × Words). Finder t w p a w′)
+  pub part-any : (t : Bytes) (w : Words) (p : Bytes) → Sole (λ ((b, e, w′) : ℕ × ℕ × Words). PartFinder t w p b e w′)
+  pub merge-any : (t : Bytes) (w : Words) (p : Bytes) (x : Words) (o : Bytes) → Sole (λ ((a, w′, x′, o′) : Answer × Words × Words × Bytes). Merger t w p x o a w′ x′ o′)
   -- "It ends, stays inside the lent memory and asks nothing of the caller first (no `requires`)": of the code this is
   -- checked with each function; of the entries, every slice keeps its length, and a part lies inside the text.
   pub inside : {t p o o′ : Bytes} {w x w′ x′ : Words} {a : Answer} {b e : ℕ}
       → (Reader t w a w′ → length w′ ≡ length w)
       × (Writer t w o a w′ o′ → (length w′ ≡ length w) × (length o′ ≡ length o))
       × (Finder t w p a w′ → length w′ ≡ length w)
-      × (PartFinder t w p b e w′ → (b ≤ e) × (e ≤ length t))
+      × (PartFinder t w p b e w′ → (length w′ ≡ length w) × (b ≤ e) × (e ≤ length t))
       × (Merger t w p x o a w′ x′ o′ → (length w′ ≡ length w) × (length x′ ≡ length x) × (length o′ ≡ length o))
   -- "A refusal gives its number, the input at fault and the place,"
   pub told : {t p o o′ : Bytes} {w x w′ x′ : Words} {a : Answer}
@@ -79,10 +79,10 @@ pub record Demand1 : Type 0 where
   pub untouched : {t p o o′ : Bytes} {w x w′ x′ : Words} {n i q : ℕ} → 0 < n
       → (Writer t w o (refusal n i q) w′ o′ → o′ ≡ o) × (Merger t w p x o (refusal n i q) w′ x′ o′ → o′ ≡ o)
   -- "and a record table holds what document 01 fixes."
-  pub tables : {t p o o′ : Bytes} {w x w′ x′ : Words} {n i q : ℕ} → 0 < n
+  pub tables : {t p o o′ : Bytes} {w x w′ x′ w″ : Words} {n i q b e : ℕ} → 0 < n
       → (Reader t w (refusal n i q) w′ → Left t w n w′)
       × (Writer t w o (refusal n i q) w′ o′ → Left t w n w′)
-      × (Finder t w p (refusal n i q) w′ → Left t w n w′)
+      × (Finder t w p (refusal n i q) w′ → Left t w n w′ × (PartFinder t w p b e w″ → w″ ≡ w′))
       × (Merger t w p x o (refusal n i q) w′ x′ o′ → LeftBoth t w p x n i w′ x′)
 
 pub record Demand2 : Type 0 where
@@ -136,8 +136,8 @@ reading-input (Reading.long l) = refl
 reading-input (Reading.narrow l m) = refl
 reading-input (Reading.refused l m v) = refl
 
-reading-stands : {k : ℕ} {t : Bytes} {w w′ : Words} {v : Node} → Reading k t w (Read.ready v w′) → Stands t w w′
-reading-stands (Reading.accepted l m x) = Stands.records x
+ready-stands : {k : ℕ} {t : Bytes} {w w′ : Words} {v : Node} → Reading k t w (Read.ready v w′) → Stands t w w′
+ready-stands (Reading.accepted l m x) = Stands.records x
 
 writing-told : {texts : ℕ} {c o o′ : Bytes} {a : Answer} → Writing c o a o′ → Answers texts a
 writing-told (Writing.long l) = Answers.output {n = 13} (omega arith) (omega arith)
@@ -175,12 +175,12 @@ reader-left h (Reader.done r) = absurd (omega arith)
 
 writer-left : {n i q k : ℕ} {t o o′ : Bytes} {w w′ : Words} → 0 < n → Writer t w o (Answer.answer n i q k) w′ o′ → Left t w n w′
 writer-left h (Writer.stop r) = reading-left r
-writer-left h (Writer.done r x y) = Left.standing (writing-blames h y .0) (reading-stands r)
+writer-left h (Writer.done r x y) = Left.standing (writing-blames h y .0) (ready-stands r)
 
 finder-left : {n i q k : ℕ} {t p : Bytes} {w w′ : Words} → 0 < n → Finder t w p (Answer.answer n i q k) w′ → Left t w n w′
 finder-left h (Finder.stop r) = reading-left r
-finder-left h (Finder.malformed r x) = Left.standing (omega arith) (reading-stands r)
-finder-left h (Finder.lost r x e) = Left.standing (omega arith) (reading-stands r)
+finder-left h (Finder.malformed r x) = Left.standing (omega arith) (ready-stands r)
+finder-left h (Finder.lost r x e) = Left.standing (omega arith) (ready-stands r)
 finder-left h (Finder.found r x e) = absurd (omega arith)
 
 blamed : {n i j : ℕ} {t p : Bytes} {w x w′ x′ : Words} → i ≡ j → LeftBoth t w p x n i w′ x′ → LeftBoth t w p x n j w′ x′
@@ -188,8 +188,8 @@ blamed {n} {t = t} {p} {w} {x} {w′} {x′} e = subst (λ i. LeftBoth t w p x n
 
 merger-left : {n i q k : ℕ} {t p o o′ : Bytes} {w x w′ x′ : Words} → 0 < n → Merger t w p x o (Answer.answer n i q k) w′ x′ o′ → LeftBoth t w p x n i w′ x′
 merger-left h (Merger.stop r) = blamed (reading-input r) (LeftBoth.target (reading-left r))
-merger-left h (Merger.stopPatch r s) = blamed (reading-input s) (LeftBoth.patch (reading-stands r) (reading-left s))
-merger-left h (Merger.done r s y z) = blamed (writing-blames h z .1) (LeftBoth.output (reading-stands r) (reading-stands s))
+merger-left h (Merger.stopPatch r s) = blamed (reading-input s) (LeftBoth.patch (ready-stands r) (reading-left s))
+merger-left h (Merger.done r s y z) = blamed (writing-blames h z .1) (LeftBoth.output (ready-stands r) (ready-stands s))
 
 -- A part is empty where the look-up is refused, and nowhere else.
 empty-part : {t p : Bytes} {w w′ w″ : Words} {b e n i q : ℕ} → PartFinder t w p b e w″ → Finder t w p (refusal n i q) w′ → 0 < n → (b ≡ 0) × (e ≡ 0)
@@ -207,11 +207,11 @@ demand-1 =
       find-any = λ t w p. (finder t w p, finder-right t w p, λ b x. finder-only x);
       part-any = λ t w p. (partFinder t w p, partFinder-right t w p, λ b x. partFinder-only x);
       merge-any = λ t w p x o. (merger t w p x o, merger-right t w p x o, λ b x. merger-only x);
-      inside = (reader-length, writer-length, finder-length, part-inside, merger-length);
+      inside = (reader-length, writer-length, finder-length, (λ x. let (i, j) = part-inside x in (partFinder-length x, i, j)), merger-length);
       told = (reader-told, writer-told, finder-told, merger-told);
       empty = λ x. (empty-part x, some-part x);
       untouched = λ h. (λ x. writer-refused h x .1, λ x. merger-refused h x .1);
-      tables = λ h. (reader-left h, writer-left h, finder-left h, merger-left h);
+      tables = λ h. (reader-left h, writer-left h, (λ x. (finder-left h x, λ y. partFinder-one y (PartFinder.none h x) .2)), merger-left h);
     }
 
 pub demand-2 : Demand2
