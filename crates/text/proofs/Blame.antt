@@ -1,23 +1,23 @@
 -- 01's consequences of the verdict: which byte stands at the place of a refusal. A depth is refused at the bracket, a
 -- digit ceiling at a digit or the point, an exponent at a digit, a repeated name at a quote.
 use Prim.Native.Char.{code}
-use Prim.Native.Nat.{_+_, _<_, suc, zero, ℕ}
-use Rattle.text.proofs.Demand3.{verdict-run}
-use Rattle.text.proofs.Dropping.{run-place}
-use Rattle.text.proofs.Limits.{house-limits}
+use Prim.Native.Nat.{_<_, suc, ℕ}
+use Rattle.text.proofs.Digits.{andDigit}
+use Rattle.text.proofs.Longest.{parts-at}
 use Rattle.text.proofs.Machine.{Frame, Numeral, Stack, State, Use, afterMove, closeMove, memberMove, move, numberMove, onto, otherMove, valueMove}
-use Rattle.text.proofs.Run.{Fault, Run}
+use Rattle.text.proofs.Place.{Refused, refused-by}
+use Rattle.text.proofs.Run.{Fault}
 use Rattle.text.proofs.Tests.{or-left, or-right}
 use Rattle.text.specs.Bytes.{Bytes, Units, isDigit, isHigh}
-use Rattle.text.specs.Ceilings.{Ceilings, house, numberOf}
+use Rattle.text.specs.Ceilings.{Ceilings, Gate, house, numberOf}
 use Rattle.text.specs.Decimal.{normal}
 use Rattle.text.specs.Node.{Members, Node, Nodes}
 use Rattle.text.specs.Verdict.{Outcome, Verdict}
-use lib.Dec.{T, eqb}
-use lib.ListN.{getD, length}
-use mathlib.Core.Bool.{_||_, false}
+use lib.Dec.{T, eqb, ltb}
+use lib.ListN.{drop, getD, length, length-take, take}
+use mathlib.Core.Bool.{Bool, _||_, false, not}
 use mathlib.Core.List.{[], _∷_}
-use mathlib.Core.Path.{_≡_}
+use mathlib.Core.Path.{_≡_, subst₂, sym}
 use native.Mathlib.Omega.{arith}
 
 -- The byte `b` may be blamed with the number `k`.
@@ -29,67 +29,89 @@ pub data Blamed : ℕ → ℕ → Type 0 where
   name : {b : ℕ} → T (eqb b (code "\"")) → Blamed 8 b
   high : {b : ℕ} → T (isHigh b) → Blamed 9 b
 
+-- The same with the state that refuses, where a number's ceilings speak.
+pub data Refuses (C : Ceilings) : State → ℕ → ℕ → Type 0 where
+  wrong : {s : State} {b : ℕ} → Refuses C s b 4
+  depth : {s : State} {b : ℕ} → T (eqb b (code "[") || eqb b (code "{")) → Refuses C s b 5
+  zero : {neg : Bool} {p : ℕ} {st : Stack} {b : ℕ} → T (eqb b (code ".")) → T (not (C (Gate.digits 2))) → Refuses C (State.number (Numeral.zero neg) p st) b 6
+  whole : {neg : Bool} {c n p : ℕ} {st : Stack} {b : ℕ}
+      → T (isDigit b || eqb b (code ".")) → T (not (C (Gate.digits (suc n)))) → Refuses C (State.number (Numeral.whole neg c n) p st) b 6
+  fraction : {neg : Bool} {c n f p : ℕ} {st : Stack} {b : ℕ} → T (isDigit b) → Refuses C (State.number (Numeral.fraction neg c n f) p st) b 6
+  power : {neg : Bool} {c n f : ℕ} {s : Bool} {e k p : ℕ} {st : Stack} {b : ℕ}
+      → T (isDigit b) → T (not (ltb k 2)) → T (not (C (Gate.power c n f s (andDigit e b) (suc k)))) → Refuses C (State.number (Numeral.power neg c n f s e k) p st) b 7
+  name : {s : State} {b : ℕ} → T (eqb b (code "\"")) → Refuses C s b 8
+  high : {s : State} {b : ℕ} → T (isHigh b) → Refuses C s b 9
+
 module _ {C : Ceilings} where
-  after-blamed : (st : Stack) (v : Node) (n b : ℕ) {k : ℕ} → Fault C (afterMove st v n b) k → Blamed k b
+  after-refuses : {s : State} (st : Stack) (v : Node) (n b : ℕ) {k : ℕ} → Fault C (afterMove st v n b) k → Refuses C s b k
   unfolding afterMove
-  after-blamed [] v n b (Fault.no _ Fault.bad) = Blamed.wrong
-  after-blamed (Frame.array a vs ∷ st) v n b (Fault.no _ (Fault.no _ (Fault.no _ Fault.bad))) = Blamed.wrong
-  after-blamed (Frame.object a ms q us ∷ st) v n b (Fault.no _ (Fault.no _ (Fault.no _ Fault.bad))) = Blamed.wrong
+  after-refuses [] v n b (Fault.no _ Fault.bad) = Refuses.wrong
+  after-refuses (Frame.array a vs ∷ st) v n b (Fault.no _ (Fault.no _ (Fault.no _ Fault.bad))) = Refuses.wrong
+  after-refuses (Frame.object a ms q us ∷ st) v n b (Fault.no _ (Fault.no _ (Fault.no _ Fault.bad))) = Refuses.wrong
 
-  value-blamed : (st : Stack) (n b : ℕ) {k : ℕ} → Fault C (valueMove st n b) k → Blamed k b
+  value-refuses : {s : State} (st : Stack) (n b : ℕ) {k : ℕ} → Fault C (valueMove st n b) k → Refuses C s b k
   unfolding valueMove otherMove numberOf
-  value-blamed st n b (Fault.no _ (Fault.no _ (Fault.no _ (Fault.no _ (Fault.no _ (Fault.no _ (Fault.no _ (Fault.no _ (Fault.yes p (Fault.ask _)))))))))) =
-      Blamed.depth (or-left (eqb b (code "[")) (eqb b (code "{")) p)
-  value-blamed st n b (Fault.no _ (Fault.no _ (Fault.no _ (Fault.no _ (Fault.no _ (Fault.no _ (Fault.no _ (Fault.no _ (Fault.no _ (Fault.yes p (Fault.ask _))))))))))) =
-      Blamed.depth (or-right (eqb b (code "[")) (eqb b (code "{")) p)
-  value-blamed st n b (Fault.no _ (Fault.no _ (Fault.no _ (Fault.no _ (Fault.no _ (Fault.no _ (Fault.no _ (Fault.no _ (Fault.no _ (Fault.no _ Fault.bad)))))))))) = Blamed.wrong
+  value-refuses st n b (Fault.no _ (Fault.no _ (Fault.no _ (Fault.no _ (Fault.no _ (Fault.no _ (Fault.no _ (Fault.no _ (Fault.yes p (Fault.ask _)))))))))) =
+      Refuses.depth (or-left (eqb b (code "[")) (eqb b (code "{")) p)
+  value-refuses st n b (Fault.no _ (Fault.no _ (Fault.no _ (Fault.no _ (Fault.no _ (Fault.no _ (Fault.no _ (Fault.no _ (Fault.no _ (Fault.yes p (Fault.ask _))))))))))) =
+      Refuses.depth (or-right (eqb b (code "[")) (eqb b (code "{")) p)
+  value-refuses st n b (Fault.no _ (Fault.no _ (Fault.no _ (Fault.no _ (Fault.no _ (Fault.no _ (Fault.no _ (Fault.no _ (Fault.no _ (Fault.no _ Fault.bad)))))))))) = Refuses.wrong
 
-  number-blamed : (ns : Numeral) (p : ℕ) (st : Stack) (n b : ℕ) {k : ℕ} → Fault C (numberMove ns p st n b) k → Blamed k b
+  number-refuses : (ns : Numeral) (p : ℕ) (st : Stack) (n b : ℕ) {k : ℕ} → Fault C (numberMove ns p st n b) k → Refuses C (State.number ns p st) b k
   unfolding numberMove numberOf
-  number-blamed Numeral.minus p st n b (Fault.no _ (Fault.no _ Fault.bad)) = Blamed.wrong
-  number-blamed (Numeral.zero neg) p st n b (Fault.yes t (Fault.ask _)) = Blamed.digits (or-right (isDigit b) (eqb b (code ".")) t)
-  number-blamed (Numeral.zero neg) p st n b (Fault.no _ (Fault.no _ f)) = after-blamed st (Node.number p n (normal neg 0 1 0 false 0)) n b f
-  number-blamed (Numeral.whole neg c m) p st n b (Fault.yes t (Fault.ask _)) = Blamed.digits (or-left (isDigit b) (eqb b (code ".")) t)
-  number-blamed (Numeral.whole neg c m) p st n b (Fault.no _ (Fault.yes t (Fault.ask _))) = Blamed.digits (or-right (isDigit b) (eqb b (code ".")) t)
-  number-blamed (Numeral.whole neg c m) p st n b (Fault.no _ (Fault.no _ (Fault.no _ f))) = after-blamed st (Node.number p n (normal neg c m 0 false 0)) n b f
-  number-blamed (Numeral.point neg c m) p st n b (Fault.no _ Fault.bad) = Blamed.wrong
-  number-blamed (Numeral.fraction neg c m f) p st n b (Fault.yes t (Fault.ask _)) = Blamed.digits (or-left (isDigit b) (eqb b (code ".")) t)
-  number-blamed (Numeral.fraction neg c m f) p st n b (Fault.no _ (Fault.no _ x)) = after-blamed st (Node.number p n (normal neg c m f false 0)) n b x
-  number-blamed (Numeral.mark neg c m f) p st n b (Fault.no _ (Fault.no _ (Fault.no _ Fault.bad))) = Blamed.wrong
-  number-blamed (Numeral.sign neg c m f s) p st n b (Fault.no _ Fault.bad) = Blamed.wrong
-  number-blamed (Numeral.power neg c m f s e j) p st n b (Fault.yes t (Fault.no _ (Fault.ask _))) = Blamed.power t
-  number-blamed (Numeral.power neg c m f s e j) p st n b (Fault.no _ x) = after-blamed st (Node.number p n (normal neg c m f s e)) n b x
+  number-refuses Numeral.minus p st n b (Fault.no _ (Fault.no _ Fault.bad)) = Refuses.wrong
+  number-refuses (Numeral.zero neg) p st n b (Fault.yes t (Fault.ask g)) = Refuses.zero t g
+  number-refuses (Numeral.zero neg) p st n b (Fault.no _ (Fault.no _ f)) = after-refuses st (Node.number p n (normal neg 0 1 0 false 0)) n b f
+  number-refuses (Numeral.whole neg c m) p st n b (Fault.yes t (Fault.ask g)) = Refuses.whole (or-left (isDigit b) (eqb b (code ".")) t) g
+  number-refuses (Numeral.whole neg c m) p st n b (Fault.no _ (Fault.yes t (Fault.ask g))) = Refuses.whole (or-right (isDigit b) (eqb b (code ".")) t) g
+  number-refuses (Numeral.whole neg c m) p st n b (Fault.no _ (Fault.no _ (Fault.no _ f))) = after-refuses st (Node.number p n (normal neg c m 0 false 0)) n b f
+  number-refuses (Numeral.point neg c m) p st n b (Fault.no _ Fault.bad) = Refuses.wrong
+  number-refuses (Numeral.fraction neg c m f) p st n b (Fault.yes t (Fault.ask _)) = Refuses.fraction t
+  number-refuses (Numeral.fraction neg c m f) p st n b (Fault.no _ (Fault.no _ x)) = after-refuses st (Node.number p n (normal neg c m f false 0)) n b x
+  number-refuses (Numeral.mark neg c m f) p st n b (Fault.no _ (Fault.no _ (Fault.no _ Fault.bad))) = Refuses.wrong
+  number-refuses (Numeral.sign neg c m f s) p st n b (Fault.no _ Fault.bad) = Refuses.wrong
+  number-refuses (Numeral.power neg c m f s e j) p st n b (Fault.yes t (Fault.no q (Fault.ask g))) = Refuses.power t q g
+  number-refuses (Numeral.power neg c m f s e j) p st n b (Fault.no _ x) = after-refuses st (Node.number p n (normal neg c m f s e)) n b x
 
-  close-blamed : (u : Use) (us : Units) (n : ℕ) {b k : ℕ} → T (eqb b (code "\"")) → Fault C (closeMove u us n) k → Blamed k b
+  close-refuses : {s : State} (u : Use) (us : Units) (n : ℕ) {b k : ℕ} → T (eqb b (code "\"")) → Fault C (closeMove u us n) k → Refuses C s b k
   unfolding closeMove numberOf
-  close-blamed (Use.name q a ms st) us n t (Fault.ask _) = Blamed.name t
+  close-refuses (Use.name q a ms st) us n t (Fault.ask _) = Refuses.name t
 
-  member-blamed : (a : ℕ) (ms : Members) (st : Stack) (n b : ℕ) {k : ℕ} → Fault C (memberMove a ms st n b) k → Blamed k b
+  member-refuses : {s : State} (a : ℕ) (ms : Members) (st : Stack) (n b : ℕ) {k : ℕ} → Fault C (memberMove a ms st n b) k → Refuses C s b k
   unfolding memberMove
-  member-blamed a ms st n b (Fault.no _ (Fault.no _ Fault.bad)) = Blamed.wrong
+  member-refuses a ms st n b (Fault.no _ (Fault.no _ Fault.bad)) = Refuses.wrong
 
-  move-blamed : (s : State) (n b : ℕ) {k : ℕ} → Fault C (move s n b) k → Blamed k b
+  pub move-refuses : (s : State) (n b : ℕ) {k : ℕ} → Fault C (move s n b) k → Refuses C s b k
   unfolding move numberOf
-  move-blamed (State.number ns p st) n b f = number-blamed ns p st n b f
-  move-blamed (State.value st) n b f = value-blamed st n b f
-  move-blamed (State.array a st) n b (Fault.no _ (Fault.no _ f)) = value-blamed (Frame.array a Nodes.nil ∷ st) n b f
-  move-blamed (State.object a st) n b (Fault.no _ (Fault.no _ f)) = member-blamed a Members.empty st n b f
-  move-blamed (State.after st v) n b f = after-blamed st v n b f
-  move-blamed (State.literal k ks v a st) n b (Fault.no _ Fault.bad) = Blamed.wrong
-  move-blamed (State.chars u us) n b (Fault.no _ (Fault.yes p (Fault.ask _))) = Blamed.high p
-  move-blamed (State.chars u us) n b (Fault.no _ (Fault.no _ (Fault.yes p f))) = close-blamed u (onto us []) n p f
-  move-blamed (State.chars u us) n b (Fault.no _ (Fault.no _ (Fault.no _ (Fault.no _ Fault.bad)))) = Blamed.wrong
-  move-blamed (State.escape u us) n b (Fault.no _ (Fault.no _ Fault.bad)) = Blamed.wrong
-  move-blamed (State.hex l a u us) n b (Fault.no _ Fault.bad) = Blamed.wrong
-  move-blamed (State.member a ms st) n b f = member-blamed a ms st n b f
-  move-blamed (State.named q us a ms st) n b (Fault.no _ (Fault.no _ Fault.bad)) = Blamed.wrong
+  move-refuses (State.number ns p st) n b f = number-refuses ns p st n b f
+  move-refuses (State.value st) n b f = value-refuses st n b f
+  move-refuses (State.array a st) n b (Fault.no _ (Fault.no _ f)) = value-refuses (Frame.array a Nodes.nil ∷ st) n b f
+  move-refuses (State.object a st) n b (Fault.no _ (Fault.no _ f)) = member-refuses a Members.empty st n b f
+  move-refuses (State.after st v) n b f = after-refuses st v n b f
+  move-refuses (State.literal k ks v a st) n b (Fault.no _ Fault.bad) = Refuses.wrong
+  move-refuses (State.chars u us) n b (Fault.no _ (Fault.yes p (Fault.ask _))) = Refuses.high p
+  move-refuses (State.chars u us) n b (Fault.no _ (Fault.no _ (Fault.yes p f))) = close-refuses u (onto us []) n p f
+  move-refuses (State.chars u us) n b (Fault.no _ (Fault.no _ (Fault.no _ (Fault.no _ Fault.bad)))) = Refuses.wrong
+  move-refuses (State.escape u us) n b (Fault.no _ (Fault.no _ Fault.bad)) = Refuses.wrong
+  move-refuses (State.hex l a u us) n b (Fault.no _ Fault.bad) = Refuses.wrong
+  move-refuses (State.member a ms st) n b f = member-refuses a ms st n b f
+  move-refuses (State.named q us a ms st) n b (Fault.no _ (Fault.no _ Fault.bad)) = Refuses.wrong
 
-  run-blamed : {s : State} {n k P : ℕ} {t : Bytes} → Run C s n t (Outcome.refused k P) → (j : ℕ) → P ≡ n + j → j < length t → Blamed k (getD t j 0)
-  run-blamed (Run.short u) j e l = absurd (omega arith)
-  run-blamed (Run.on k ρ) zero e l = absurd (omega (arith, run-place ρ))
-  run-blamed (Run.on k ρ) (suc j) e l = run-blamed ρ j (omega arith) (omega arith)
-  run-blamed {s} (Run.off {n = n} {b = b} f) zero e l = move-blamed s n b f
-  run-blamed (Run.off f) (suc j) e l = absurd (omega arith)
+-- The state left out, the byte may be blamed.
+blamed : {C : Ceilings} {s : State} {b k : ℕ} → Refuses C s b k → Blamed k b
+blamed Refuses.wrong = Blamed.wrong
+blamed (Refuses.depth t) = Blamed.depth t
+blamed {b = b} (Refuses.zero t g) = Blamed.digits (or-right (isDigit b) (eqb b (code ".")) t)
+blamed (Refuses.whole t g) = Blamed.digits t
+blamed {b = b} (Refuses.fraction t) = Blamed.digits (or-left (isDigit b) (eqb b (code ".")) t)
+blamed (Refuses.power t q g) = Blamed.power t
+blamed (Refuses.name t) = Blamed.name t
+blamed (Refuses.high t) = Blamed.high t
 
 pub refused-byte : {t : Bytes} {n P : ℕ} → Verdict house t (Outcome.refused n P) → P < length t → Blamed n (getD t P 0)
-refused-byte {P = P} v l = run-blamed (verdict-run house-limits v) P (omega arith) l
+refused-byte {t} {n} {P} v l =
+    let m : length (take P t) ≡ P = omega (arith, length-take P t) in
+    by (refused-by (take P t) (getD t P 0) (drop (suc P) t) (subst₂ (λ u i. Verdict house u (Outcome.refused n i)) (parts-at P t l) (sym m) v))
+  where
+    by : {b : ℕ} → Refused (take P t) b n → Blamed n b
+    by {b} (Refused.refused {s = s} {j = j} w f) = blamed (move-refuses s j b f)

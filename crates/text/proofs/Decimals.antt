@@ -54,7 +54,26 @@ unfolding strip
 strip-none zero c h = refl
 strip-none (suc n) c h = ap (λ b. elim b as (λ _. ℕ) [ true ↦ strip n (c / 10) | false ↦ c ]) (ne-eqb (c % 10) 0 h)
 
--- The exponent of a normal form: the sign has no part in it, and it is no more than what it is made of together.
+-- The exponent of a normal form: the sign has no part in it, ...
+scaled-sign : (neg : Bool) (c p m : ℕ) → exponentOf (scaled neg c p m) ≡ exponentOf (scaled false c p m)
+unfolding scaled exponentOf
+scaled-sign neg c p m = by (leb m p)
+  where
+    by : (b : Bool) → exponentOf (cond b (Decimal.decimal neg c false (p - m)) (Decimal.decimal neg c true (m - p))) ≡ exponentOf (cond b (Decimal.decimal false c false (p - m)) (Decimal.decimal false c true (m - p)))
+    by true = refl
+    by false = refl
+
+pub normal-sign : (neg : Bool) (c n f : ℕ) (down : Bool) (e : ℕ) → exponentOf (normal neg c n f down e) ≡ exponentOf (normal false c n f down e)
+unfolding normal
+normal-sign neg c n f down e = by (eqb c 0) down
+  where
+    by : (b down : Bool) → exponentOf (cond b (Decimal.decimal false 0 false 0) (cond down (scaled neg (strip n c) (zeros n c) (e + f)) (scaled neg (strip n c) (e + zeros n c) f)))
+        ≡ exponentOf (cond b (Decimal.decimal false 0 false 0) (cond down (scaled false (strip n c) (zeros n c) (e + f)) (scaled false (strip n c) (e + zeros n c) f)))
+    by true down = refl
+    by false true = scaled-sign neg (strip n c) (zeros n c) (e + f)
+    by false false = scaled-sign neg (strip n c) (e + zeros n c) f
+
+-- ... and it is no more than what it is made of together.
 scaled-exponent : (neg : Bool) (c p m : ℕ) → exponentOf (scaled neg c p m) ≤ p + m
 unfolding scaled exponentOf
 scaled-exponent neg c p m = by (leb m p)

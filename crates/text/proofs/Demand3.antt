@@ -87,12 +87,12 @@ run-off {B} b q m e (Went.step {p = p} k w) f (Run.on {n = n} {a = a} k′ ρ) =
 run-off b q m e (Went.step k w) f (Run.off f′) = absurd (took-fault k f′)
 
 -- Beginnings of what is viable are viable.
-viable-cut : (C : Ceilings) (p q : Bytes) → Viable C (p ++ q) → Viable C p
+pub viable-cut : (C : Ceilings) (p q : Bytes) → Viable C (p ++ q) → Viable C p
 viable-cut C p q (w, v, x) = (q ++ w, v, subst (λ t. Text C t v) (append-assoc p q w) x)
 
 module _ (B : Ceilings) (limits : Limits B) where
   -- The machine's outcome is what the rules say.
-  at-fault : (p : Bytes) (b : ℕ) (q : Bytes) (k : ℕ) {s : State} {j : ℕ} → Went B initial 0 p s j → Fault B (move s j b) k → Cause B (move s j b) k
+  pub at-fault : (p : Bytes) (b : ℕ) (q : Bytes) (k : ℕ) {s : State} {j : ℕ} → Went B initial 0 p s j → Fault B (move s j b) k → Cause B (move s j b) k
       → Verdict B (p ++ (b ∷ q)) (Outcome.refused k (length p))
   at-fault p b q k {s} {j} w f c = by c
     where

@@ -17,7 +17,13 @@ pub mod Records
 pub mod Way
 pub mod Demand3
 pub mod Dropping
+pub mod Place
 pub mod Blame
+pub mod Endings
+pub mod Standing
+pub mod LastDigits
+pub mod LastPower
+pub mod HighBytes
 pub mod Every
 pub mod Takes
 pub mod Offsets

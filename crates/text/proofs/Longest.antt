@@ -38,11 +38,14 @@ longest-at Good cut t p b q e g n = subst⁻¹ (λ u. Longest Good u (length p))
     within k h = let f : ¬ (length p < k) = λ l. past k l h in omega arith
 
 -- A byte inside `t`, what stands before it and what stands behind it.
+pub parts-at : (n : ℕ) (t : Bytes) → n < length t → t ≡ take n t ++ (getD t n 0 ∷ drop (suc n) t)
+parts-at n t h = sym (take-append-drop n t) ∙ ap (λ u. take n t ++ u) (drop-cons t n 0 h)
+
 pub cut-at : (n : ℕ) (t : Bytes) → n < length t → (b : ℕ) × (q : Bytes) × (t ≡ take n t ++ (b ∷ q)) × (take (suc n) t ≡ take n t ++ (b ∷ [])) × (length (take n t) ≡ n)
 cut-at n t h = (
   getD t n 0,
   drop (suc n) t,
-  sym (take-append-drop n t) ∙ ap (λ u. take n t ++ u) (drop-cons t n 0 h),
+  parts-at n t h,
   take-suc t n 0 h,
   omega (arith, length-take n t),
 )

@@ -60,6 +60,10 @@ below f (suc n) t x l = by (eqb x n) refl (λ g. below f n (and-right (f n) (eac
 pub byte-at : {b : ℕ} (k : ℕ) (G : ℕ → Type 0) → T (eqb b k) → G k → G b
 byte-at {b} k G t = subst⁻¹ G (eqb→eq b k t)
 
+-- What holds of two bytes holds of one that is tested to be either.
+pub one-of : (P : ℕ → Type 0) (b k l : ℕ) → T (eqb b k || eqb b l) → P k → P l → P b
+one-of P b k l t p q = either (eqb b k) (eqb b l) (λ e. byte-at k P e p) (λ e. byte-at l P e q) t
+
 -- What holds of the four whitespace bytes, and of the two exponent marks, holds of any.
 pub space-at : (P : ℕ → Type 0) (b : ℕ) → T (isSpace b) → P 0x20 → P 0x09 → P 0x0a → P 0x0d → P b
 space-at P b t p q r s =
@@ -77,8 +81,7 @@ pub not-byte : (P : ℕ → Bool) (b k : ℕ) → T (P b) → T (not (P k)) → 
 not-byte P b k t q = not-T (eqb b k) λ e. T-not (P b) (byte-at k (λ b. T (not (P b))) e q) t
 
 pub e-not : (P : ℕ → Bool) (b : ℕ) → T (isE b) → T (not (P (code "E"))) → T (not (P (code "e"))) → T (not (P b))
-e-not P b t p q =
-    either (eqb b (code "E")) (eqb b (code "e")) (λ e. byte-at (code "E") (λ b. T (not (P b))) e p) (λ e. byte-at (code "e") (λ b. T (not (P b))) e q) t
+e-not P b t p q = one-of (λ b. T (not (P b))) b (code "E") (code "e") t p q
 
 -- The bounds of a class.
 pub digit-most : (b : ℕ) → T (isDigit b) → b ≤ code "9"

@@ -33,7 +33,7 @@ pub data Went (B : Ceilings) : State → ℕ → Bytes → State → ℕ → Typ
   step : {s s′ s″ : State} {n b j : ℕ} {p : Bytes} → Took B (move s n b) s′ → Went B s′ (suc n) p s″ j → Went B s n (b ∷ p) s″ j
 
 module _ (B : Ceilings) (limits : Limits B) where
-  fit-start : Fitting B initial
+  pub fit-start : Fitting B initial
   unfolding isNumber
   fit-start = Fitting.other tt
 
@@ -41,7 +41,7 @@ module _ (B : Ceilings) (limits : Limits B) where
   fit-on : (s : State) (n b : ℕ) {s′ : State} → Fitting B s → Took B (move s n b) s′ → Fitting B s′
   fit-on s n b φ k = fit-step B (limits .roomy) B limits (λ g t. t) s n b φ k
 
-  went-fit : {s s′ : State} {n j : ℕ} {p : Bytes} → Fitting B s → Went B s n p s′ j → Fitting B s′
+  pub went-fit : {s s′ : State} {n j : ℕ} {p : Bytes} → Fitting B s → Went B s n p s′ j → Fitting B s′
   went-fit φ Went.none = φ
   went-fit {s} φ (Went.step {n = n} {b = b} k q) = went-fit (fit-on s n b φ k) q
 
