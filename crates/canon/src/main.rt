@@ -1,37 +1,42 @@
 // Reads a text from standard input and writes its canonical text, or `refused N at P`, and a line feed.
-ghost use Prim.Native.Nat.{_*_, _≤_};
-ghost use Rattle.console.specs.Programs.{Canon, Given, longest};
-ghost use Rattle.reader.specs.Answers.{answerOf};
-ghost use lib.ListN.{length};
+ghost use Prim.Native.Nat.{_*_, _<_};
+ghost use Rattle.console.specs.Programs.{Canon, longest};
+ghost use Rattle.io.specs.Counts.{Counts};
+ghost use lib.ListN.{length, take};
 use console::LONGEST;
 use console::ROOM;
 use console::WORDS;
-use console::show::show;
+use console::line::put_refused_at;
 use libc::STDIN_FILENO;
+use libc::STDOUT_FILENO;
 use nibrocate::write::write;
-use reader::answer::Answer;
-use reader::answer::refusal;
 
-// A canonical text has at most six bytes for each byte of its text.
-const OUT: usize = 6 * LONGEST;
+// A canonical text has at most six bytes for each byte of its text; the line feed follows it.
+const LINE: usize = 6 * LONGEST + 1;
 
-// The answer to `text`, whose canonical text is put at the front of `out`.
-fn canon(text: &[u8], out: &mut [u8]) -> Answer
-    requires { ⌜ 6 * longest ≤ length (now out) ⌝ }
-    ensures canon { λ r. ⌜ Canon (now (text .entry)) (now (out .entry)) (answerOf r) (now (out .exit)) ⌝ }
-    ensures given { λ r. ⌜ Given (r .number) ⌝ }
+// Puts the line for `text` at the front of `line`, and returns its length.
+fn canon(text: &[u8], line: &mut [u8]) -> usize
+    requires { ⌜ 6 * longest < length (now line) ⌝ }
+    ensures canon { λ n. ⌜ Canon (now (text .entry)) (take n (now (line .exit))) ⌝ }
+    ensures within { λ n. ⌜ Counts n (now (line .exit)) ⌝ }
 {
     if text.len() > LONGEST {
-        return refusal(1, 1, 0);
+        return put_refused_at(1, 0, line);
     }
     let mut table = [0; WORDS];
-    write(text, &mut table, out)
+    let a = write(text, &mut table, line);
+    if a.number != 0 {
+        return put_refused_at(a.number, a.place, line);
+    }
+    let n = a.count as usize;
+    line[n] = b'\n';
+    n + 1
 }
 
 fn main() {
     let mut room = [0; ROOM];
     let n = io::read_full(STDIN_FILENO, &mut room);
-    let mut out = [0; OUT];
-    let a = canon(&room[..n], &mut out);
-    show(a, &out, false);
+    let mut line = [0; LINE];
+    let m = canon(&room[..n], &mut line);
+    io::write_all(STDOUT_FILENO, &line[..m]);
 }

@@ -1,2 +1,5 @@
--- Of the programs: which numbers they give.
-pub mod Given
+-- Of the programs: one line fits, and which.
+pub mod Lines
+pub mod Rooms
+pub mod Answers
+pub mod Examples

@@ -1,2 +1,3 @@
--- What the two programs answer.
+-- What the two programs write.
 pub mod Programs
+pub mod Parts

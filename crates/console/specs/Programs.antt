@@ -1,33 +1,46 @@
--- What the two programs answer, before it is shown. 01 "The two programs".
-use Prim.Native.Nat.{ℕ, _*_, _≤_, _<_}
-use Rattle.entries.specs.Answer.{Answer, Read, Reading, refusal}
-use Rattle.entries.specs.Entries.{Merger, Writer}
-use Rattle.text.specs.Bytes.{Bytes}
+-- The line that each of the two programs writes, its line feed included. 01 "The two programs".
+use Prim.Native.Nat.{ℕ, _<_, _≤_}
+use Rattle.meaning.specs.Canonical.{Canonical, putDigits}
+use Rattle.meaning.specs.Meaning.{mean, meaning, tree}
+use Rattle.meaning.specs.Merge.{merge}
+use Rattle.text.specs.Bytes.{Bytes, ascii}
+use Rattle.text.specs.Ceilings.{house}
 use Rattle.text.specs.Node.{Node}
-use Rattle.text.specs.Table.{Words, recordWords}
+use Rattle.text.specs.Verdict.{Outcome, Verdict}
 use lib.ListN.{length}
-use mathlib.Core.Path.{_≡_}
+use mathlib.Core.List.{[], _++_, _∷_}
 
+-- The most bytes of a text.
 abbrev pub longest : ℕ
 longest = 1024
 
--- A table that is long enough for any text of the programs.
-abbrev pub Wide : Words → Type 0
-Wide w = recordWords * longest ≤ length w
+-- A number in fewest digits: one of 32 bits has at most ten.
+abbrev pub decimal : ℕ → Bytes
+decimal n = putDigits 10 n []
 
--- The answer to a text, with an output that holds `o` at entry.
-pub data Canon (t o : Bytes) : Answer → Bytes → Type 0 where
-  long : longest < length t → Canon t o (refusal 1 1 0) o
-  short : {a : Answer} {w w′ : Words} {o′ : Bytes} → length t ≤ longest → Wide w → Writer t w o a w′ o′ → Canon t o a o′
+abbrev pub feed : Bytes
+feed = 0x0a ∷ []
 
--- The answer to a target and a patch: all of the target, then all of the patch.
-pub data Apply (t p o : Bytes) : Answer → Bytes → Type 0 where
-  long : longest < length t → Apply t p o (refusal 1 1 0) o
-  stop : {a : Answer} {w w′ : Words} → length t ≤ longest → longest < length p → Wide w → Reading 1 t w (Read.stop a w′) → Apply t p o a o
-  longPatch : {v : Node} {w w′ : Words} → length t ≤ longest → longest < length p → Wide w → Reading 1 t w (Read.ready v w′) → Apply t p o (refusal 1 2 0) o
-  short : {a : Answer} {w x w′ x′ : Words} {o′ : Bytes} → length t ≤ longest → length p ≤ longest → Wide w → Wide x
-      → Merger t w p x o a w′ x′ o′ → Apply t p o a o′
+-- `refused N at P`, and `refused N in I at P`.
+unfoldable pub refusedAt : ℕ → ℕ → Bytes
+refusedAt n p = ascii "refused " ++ decimal n ++ ascii " at " ++ decimal p ++ feed
 
--- The numbers that a program may give, 0 for acceptance: 2, 12 and 13 are none of them.
-abbrev pub Given : ℕ → Type 0
-Given n = (n ≤ 9) × (n ≡ 2 → ⊥)
+unfoldable pub refusedIn : ℕ → ℕ → ℕ → Bytes
+refusedIn n i p = ascii "refused " ++ decimal n ++ ascii " in " ++ decimal i ++ ascii " at " ++ decimal p ++ feed
+
+-- What is made of a text: one that is too long is refused as 1 at 0, and any other has its verdict.
+pub data Judged (t : Bytes) : Outcome → Type 0 where
+  long : longest < length t → Judged t (Outcome.refused 1 0)
+  short : {a : Outcome} → length t ≤ longest → Verdict house t a → Judged t a
+
+-- The line of the first program for a text.
+pub data Canon (t : Bytes) : Bytes → Type 0 where
+  refused : {n p : ℕ} → Judged t (Outcome.refused n p) → Canon t (refusedAt n p)
+  written : {v : Node} {c : Bytes} → Judged t (Outcome.accepted v) → Canonical (meaning v) c → Canon t (c ++ feed)
+
+-- The line of the second for a target and a patch: all of the target, then all of the patch.
+pub data Apply (t p : Bytes) : Bytes → Type 0 where
+  refused : {n q : ℕ} → Judged t (Outcome.refused n q) → Apply t p (refusedIn n 1 q)
+  refusedPatch : {v : Node} {n q : ℕ} → Judged t (Outcome.accepted v) → Judged p (Outcome.refused n q) → Apply t p (refusedIn n 2 q)
+  written : {v u : Node} {c : Bytes} → Judged t (Outcome.accepted v) → Judged p (Outcome.accepted u)
+      → Canonical (mean (merge (tree v) (tree u))) c → Apply t p (c ++ feed)

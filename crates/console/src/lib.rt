@@ -1,6 +1,7 @@
-// What programs share: texts of up to 1,024 bytes, how an answer is shown, and what is said of a comparison.
+// What programs share: texts of up to 1,024 bytes, the line of a refusal, and what is said of a comparison.
 pub mod file;
 pub mod front;
+pub mod line;
 pub mod show;
 pub mod verdict;
 

@@ -1,32 +1,20 @@
--- Apart from the length of its text the answer is the writer's, with a table that is long enough.
-use Prim.Native.Nat.{_*_, _<_, _≤_}
+-- A refusal is said by its line, and behind a canonical text stands a line feed.
+use Rattle.console.proofs.Answers.{due-fed, due-refused, writer-due}
+use Rattle.console.proofs.Rooms.{at-front}
+use Rattle.console.specs.Programs.{Canon, Judged}
+use borrow.Author.Needs.{needs}
+use native.Mathlib.Omega.{arith}
 use Rattle.canon.proofs.canon.Statement.{statement}
 use Rattle.canon.proofs.canon.Tie as tie
-use Rattle.console.proofs.Given.{canon-given, wide}
-use Rattle.console.specs.Programs.{Canon, Given, longest}
-use Rattle.entries.specs.Entries.{Writer}
-use Rattle.reader.specs.Answers.{answerOf, answered}
-use Rattle.reader.specs.declared.answer.Answer.{Answer}
-use Rattle.text.specs.Bytes.{Bytes}
-use Rattle.text.specs.Table.{Words}
-use borrow.Author.Needs.{needs}
-use lib.ListN.{length, replicate}
-use mathlib.Core.Path.{_≡_, subst, sym}
-use native.Mathlib.Omega.{arith}
 
-long : {t o : Bytes} {a : Answer} → longest < length t → a ≡ answered 1 1 0 0 → Canon t o (answerOf a) o × Given (a .number)
-long {t} {o} l e =
-    subst (λ a. Canon t o (answerOf a) o × Given (a .number)) (sym e) (Canon.long l, (omega arith, λ d. omega (arith, d)))
+put-refused-at-requires : tie.Need-put-refused-at-requires
+put-refused-at-requires c κs = search needs
 
-short : {t o o′ : Bytes} {w′ : Words} {a : Answer} → length t ≤ longest → 6 * longest ≤ length o
-    → Writer t (replicate 4096 0) o (answerOf a) w′ o′ → Canon t o (answerOf a) o′ × Given (a .number)
-short l h r = let x = Canon.short l wide r in (x, canon-given h x)
-
-refusal-requires : tie.Need-refusal-requires
-refusal-requires c κs = search needs
+same-length : tie.Need-same-length
+same-length c = search needs
 
 returns : tie.Need-returns
-returns c = long (omega arith) (c .refusal .ensures)
+returns c = at-front (Canon _) (c .before .before .put-refused-at .ensures) (Canon.refused (Judged.long (omega arith)))
 
 slice-aggregate-write : tie.Need-slice-aggregate-write
 slice-aggregate-write c = search needs
@@ -34,13 +22,46 @@ slice-aggregate-write c = search needs
 write-requires : tie.Need-write-requires
 write-requires c κs = search needs
 
-same-length : tie.Need-same-length
-same-length c = search needs
+put-refused-at-requires-2 : tie.Need-put-refused-at-requires-2
+put-refused-at-requires-2 c κs = search needs
+
+same-length-2 : tie.Need-same-length-2
+same-length-2 c = search needs
 
 returns-2 : tie.Need-returns-2
-returns-2 c = short (omega arith) (omega arith) (c .before .before .before .write .ensures)
+returns-2 c =
+    at-front (Canon _) (c .before .before .put-refused-at2 .ensures)
+    (due-refused (writer-due (omega arith) (omega arith) (c .before .before .before .before .before .before .before .before .before .write .ensures)) (c .before .before .before .before .if2 .taken))
+
+cast-n : tie.Need-cast-n
+cast-n c = search needs
+
+slice-write-line : tie.Need-slice-write-line
+slice-write-line c = (due-fed (writer-due (omega arith) (omega arith) (c .before .before .before .before .before .before .write .ensures)) (c .before .if2 .left)) .0
+
+add-result : tie.Need-add-result
+add-result c = search needs
+
+same-length-3 : tie.Need-same-length-3
+same-length-3 c = search needs
+
+returns-3 : tie.Need-returns-3
+returns-3 c = (due-fed (writer-due (omega arith) (omega arith) (c .before .before .before .before .before .before .write .ensures)) (c .before .if2 .left)) .1
 
 pub canon-spec : {M : Type 1} → statement M
 canon-spec =
     tie.close
-    (tie.spec refusal-requires returns slice-aggregate-write write-requires same-length returns-2)
+    (tie.spec
+    put-refused-at-requires
+    same-length
+    returns
+    slice-aggregate-write
+    write-requires
+    put-refused-at-requires-2
+    same-length-2
+    returns-2
+    cast-n
+    slice-write-line
+    add-result
+    same-length-3
+    returns-3)
