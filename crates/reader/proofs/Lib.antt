@@ -8,3 +8,4 @@ pub mod Repeated
 pub mod Rows
 pub mod Settling
 pub mod Tokens
+pub mod Twice

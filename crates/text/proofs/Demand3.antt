@@ -61,7 +61,7 @@ fault-range (Fault.yes p f) = fault-range f
 fault-range (Fault.no p f) = fault-range f
 
 -- Where and how a run ends.
-data Split (B : Ceilings) (s : State) (n : ℕ) : Bytes → Outcome → Type 0 where
+pub data Split (B : Ceilings) (s : State) (n : ℕ) : Bytes → Outcome → Type 0 where
   accepted : {t : Bytes} {v : Node} → Split B s n t (Outcome.accepted v)
   short : {s′ : State} {t : Bytes} {m : ℕ} → Went B s n t s′ m → m ≡ n + length t → Split B s n t (Outcome.refused 3 m)
   off : {s′ : State} (p : Bytes) (b : ℕ) (q : Bytes) {k m : ℕ} → Went B s n p s′ m → Fault B (move s′ m b) k → m ≡ n + length p → Split B s n (p ++ (b ∷ q)) (Outcome.refused k m)
@@ -71,7 +71,7 @@ split-on b k Split.accepted = Split.accepted
 split-on b k (Split.short {m = m} w e) = Split.short {m = m} (Went.step k w) (omega arith)
 split-on b k (Split.off p c q {m = m} w f e) = Split.off (b ∷ p) c q {m = m} (Went.step k w) f (omega arith)
 
-split : {B : Ceilings} {s : State} {n : ℕ} {t : Bytes} {a : Outcome} → Run B s n t a → Split B s n t a
+pub split : {B : Ceilings} {s : State} {n : ℕ} {t : Bytes} {a : Outcome} → Run B s n t a → Split B s n t a
 split (Run.ends d) = Split.accepted
 split (Run.short {n = n} f) = Split.short {m = n} Went.none (omega arith)
 split (Run.on {b = b} k ρ) = split-on b k (split ρ)

@@ -20,7 +20,7 @@ run-place (Run.off f) = omega arith
 
 module _ (B : Ceilings) (i : ℕ) where
   -- A move that passes still does, and a refusal with another number stays.
-  took-still : {m : Move} {s : State} → Took B m s → Took (without i B) m s
+  pub took-still : {m : Move} {s : State} → Took B m s → Took (without i B) m s
   took-still Took.go = Took.go
   took-still (Took.ask {g = g} t) = Took.ask (wider i B g t)
   took-still (Took.yes p k) = Took.yes p (took-still k)

@@ -26,5 +26,10 @@ pub mod LastPower
 pub mod HighBytes
 pub mod Every
 pub mod Takes
+pub mod Twice
+pub mod Open
+pub mod Opening
+pub mod Quotes
+pub mod NamesTwice
 pub mod Offsets
 pub mod Edges

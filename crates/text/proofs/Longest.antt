@@ -13,7 +13,7 @@ pub longest-one : (Good : Bytes → Type 0) (t : Bytes) {m n : ℕ} → Longest 
 longest-one Good t {m = m} {n = n} (p, q, r) (x, y, z) = let a : m ≤ n = z m p q in let b : n ≤ m = r n x y in omega arith
 
 -- What reaches past `p` begins with `p` and the byte behind it.
-take-past : (k : ℕ) (p : Bytes) (b : ℕ) (q : Bytes) → length p < k → (r : Bytes) × (take k (p ++ (b ∷ q)) ≡ (p ++ (b ∷ [])) ++ r)
+pub take-past : (k : ℕ) (p : Bytes) (b : ℕ) (q : Bytes) → length p < k → (r : Bytes) × (take k (p ++ (b ∷ q)) ≡ (p ++ (b ∷ [])) ++ r)
 take-past zero p b q h = absurd (omega arith)
 take-past (suc k) [] b q h = (take k q, refl)
 take-past (suc k) (c ∷ p) b q h = let (r, e) = take-past k p b q (omega arith) in (r, ap (λ t. c ∷ t) e)

@@ -22,18 +22,18 @@ use native.Mathlib.Omega.{arith}
 use Rattle.text.specs.Grammar as rule
 
 -- A high byte is no plain one.
-high≢plain : (b : ℕ) → T (isHigh b) → T (not (isPlain b))
+pub high≢plain : (b : ℕ) → T (isHigh b) → T (not (isPlain b))
 high≢plain b h = not-T (isPlain b) λ p. let lo : 0x80 ≤ b = high-least b h in let hi : b ≤ 0x7f = plain-most b p in omega arith
 
 -- The machine counts a `\u` up from 0.
-from-zero : (a b c d : ℕ) {u : ℕ} → Is (hexUnit a b c d) u → Is (16 * (16 * (16 * (16 * 0 + hexValue a) + hexValue b) + hexValue c) + hexValue d) u
+pub from-zero : (a b c d : ℕ) {u : ℕ} → Is (hexUnit a b c d) u → Is (16 * (16 * (16 * (16 * 0 + hexValue a) + hexValue b) + hexValue c) + hexValue d) u
 from-zero a b c d {u} e = subst (λ x. Is (16 * (16 * (16 * x + hexValue b) + hexValue c) + hexValue d) u) (let z : hexValue a ≡ 16 * 0 + hexValue a = omega arith in z) e
 
 to-zero : (a b c d : ℕ) {u : ℕ} → Is (16 * (16 * (16 * (16 * 0 + hexValue a) + hexValue b) + hexValue c) + hexValue d) u → Is (hexUnit a b c d) u
 to-zero a b c d {u} e = subst (λ x. Is (16 * (16 * (16 * x + hexValue b) + hexValue c) + hexValue d) u) (let z : 16 * 0 + hexValue a ≡ hexValue a = omega arith in z) e
 
 module _ (C : Ceilings) where
-  escape-of : {p : ℕ} {i us : Bytes} {o : Source} → HexRest C (Left.more (Left.more (Left.more Left.last))) 0 (from (suc p) i) o us → Escape C (from p (code "u" ∷ i)) o us
+  pub escape-of : {p : ℕ} {i us : Bytes} {o : Source} → HexRest C (Left.more (Left.more (Left.more Left.last))) 0 (from (suc p) i) o us → Escape C (from p (code "u" ∷ i)) o us
   escape-of (HexRest.more {b = a} p (HexRest.more {b = b} q (HexRest.more {b = c} r (HexRest.last {b = d} s e x)))) = Escape.unit p q r s (to-zero a b c d e) x
 
   -- The machine's move allows what the grammar allows.
