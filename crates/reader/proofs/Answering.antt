@@ -129,14 +129,7 @@ module _ {t w tab : Words} (h : length t ≤ maxText) where
     pub otherwise-refused : (k : ℕ) → 4 * length t ≤ length w → (n ≡ 0 → ⊥) → first ≡ unnamed → ReadAs k t w (replicate (4 * length t) 0 ++ drop (4 * length t) tab) (answered n k p 0)
     otherwise-refused k g f z = refused k t w tab h g framed (broken-is f z)
 
-    -- The count is small, and the first repeated name stands inside the text.
-    pub count-small : n ≡ 0 → c ≤ unnamed
-    count-small e = by s
-      where
-        by : Settled t w tab n p c first → c ≤ unnamed
-        by (Settled.read _ v es r) = omega (arith, r .few)
-        by (Settled.broken es b y l) = absurd (b .some e)
-
+    -- The first repeated name stands inside the text.
     pub first-below : (first ≡ unnamed → ⊥) → first < unnamed
     first-below f = by s
       where

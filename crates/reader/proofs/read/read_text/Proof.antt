@@ -1,5 +1,6 @@
 -- The reading stops, what is open is closed, and the verdict is told.
-use Rattle.reader.proofs.Answering.{broken-is, cleared-long, count-small, first-below, first-inside, name-refused, otherwise-refused, read-all, settled-long, small-refusal, too-long, too-narrow}
+use Rattle.reader.proofs.Answering.{broken-is, cleared-long, first-below, first-inside, name-refused, otherwise-refused, read-all, settled-long, small-refusal, too-long, too-narrow}
+use Rattle.reader.proofs.Settling.{stopped-most}
 use Rattle.reader.specs.Answers.{ReadAs}
 use mathlib.Core.Path.{subst⁻¹}
 use native.Mathlib.Omega.{arith}
@@ -36,7 +37,7 @@ settle-requires c κs = (record { entry = _; stopped = c .before .before .before
 
 -- src/read.rt:34:13
 success-requires : tie.Need-success-requires
-success-requires c κs = count-small (omega (arith, c .before .before .before .before .before .before .before .before .before .before .before .if1 .left)) (c .before .before .before .before .settle .ensures _ (c .before .before .before .before .before .before .before .before .fill .ensures) (omega (arith, c .before .before .before .before .before .before .before .before .before .before .if2 .left))) (c .if4 .taken)
+success-requires c κs = let m = stopped-most (omega (arith, c .before .before .before .before .before .before .before .before .before .before .before .if1 .left)) (c .before .before .before .before .before .before .before .before .fill .ensures) .1 in omega arith
 
 -- src/read.rt:34:13
 same-length : tie.Need-same-length
