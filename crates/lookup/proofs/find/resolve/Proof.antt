@@ -49,7 +49,7 @@ loop-less : tie.Need-loop-less Inv-loop μ-loop
 loop-less c = let s = c .before .before .before .before .before .before .before .before .before in let ((v, h), (ts, x)) = s .pre in let g = c .before .before .before .before .before .loop .inv .1 v ts h x in let k = (c .before .before .before .token-end .ensures _ _ (token g (c .before .before .before .before .loop-test .taken) .bytes)) in omega (arith, k .onward, k .bound)
 
 loop-again : tie.Need-loop-again Inv-loop μ-loop
-loop-again c = let s = c .before .before .before .before .before .before .before .before .before in let ((v, h), (ts, x)) = s .pre in let g = c .before .before .before .before .before .loop .inv .1 v ts h x in ((c .before .before .before .token-end .ensures _ _ (token g (c .before .before .before .before .loop-test .taken) .bytes)) .bound, λ v ts h x. let g = c .before .before .before .before .before .loop .inv .1 v ts h x in walk-on g (c .before .before .before .before .loop-test .taken) (c .before .before .before .token-end .ensures _ _ (token g (c .before .before .before .before .loop-test .taken) .bytes)) (c .before .child-of .ensures _ _ (g .held)) (c .if1 .left))
+loop-again c = let s = c .before .before .before .before .before .before .before .before .before in let ((v, h), (ts, x)) = s .pre in let g = c .before .before .before .before .before .loop .inv .1 v ts h x in (omega (arith, (c .before .before .before .token-end .ensures _ _ (token g (c .before .before .before .before .loop-test .taken) .bytes)) .bound), λ v ts h x. let g = c .before .before .before .before .before .loop .inv .1 v ts h x in walk-on g (c .before .before .before .before .loop-test .taken) (c .before .before .before .token-end .ensures _ _ (token g (c .before .before .before .before .loop-test .taken) .bytes)) (c .before .child-of .ensures _ _ (g .held)) (c .if1 .left))
 
 success-requires : tie.Need-success-requires Inv-loop μ-loop
 success-requires c κs = let s = c .before .before .before .before .before in let ((v, h), (ts, x)) = s .pre in let g = c .before .loop .inv .1 v ts h x in held-small (g .held)

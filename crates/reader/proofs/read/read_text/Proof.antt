@@ -53,7 +53,7 @@ clear-requires c κs = omega (arith, settled-long (omega (arith, c .before .befo
 
 -- src/read.rt:37:9
 refusal-requires-3 : tie.Need-refusal-requires-3
-refusal-requires-3 c κs = small-refusal _ (omega (arith, c .before .before .before .before .before .before .before .before .before .before .before .before .before .before .before .if1 .left)) (broken-is (omega (arith, c .before .before .before .before .before .before .before .before .before .before .before .before .before .before .before .if1 .left)) (c .before .before .before .before .before .before .before .before .settle .ensures _ (c .before .before .before .before .before .before .before .before .before .before .before .before .fill .ensures) (omega (arith, c .before .before .before .before .before .before .before .before .before .before .before .before .before .before .if2 .left))) (c .before .before .before .before .if4 .left) (c .before .before .before .before .before .if3 .taken))
+refusal-requires-3 c κs = let (k, p) = small-refusal _ (omega (arith, c .before .before .before .before .before .before .before .before .before .before .before .before .before .before .before .if1 .left)) (broken-is (omega (arith, c .before .before .before .before .before .before .before .before .before .before .before .before .before .before .before .if1 .left)) (c .before .before .before .before .before .before .before .before .settle .ensures _ (c .before .before .before .before .before .before .before .before .before .before .before .before .fill .ensures) (omega (arith, c .before .before .before .before .before .before .before .before .before .before .before .before .before .before .if2 .left))) (c .before .before .before .before .if4 .left) (c .before .before .before .before .before .if3 .taken)) in (omega arith, omega arith)
 
 -- src/read.rt:37:9
 same-length-2 : tie.Need-same-length-2
