@@ -62,6 +62,7 @@ fn main() {
     named(b"/k\"l", 10, b"6");
     named(b"/ ", 11, b"7");
     named(b"/m~0n", 12, b"8");
+    found(b"{\"/\":1,\"~1\":2}", b"/~01", 2, b"2");
     found(&FOO, b"/foo/0", 2, b"\"bar\"");
     found(&FOO, b"/", 4, b"0");
     refused(&FOO, b"/foo/01", 11, 4);
