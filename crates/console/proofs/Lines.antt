@@ -37,7 +37,7 @@ judged-one (Judged.short l v) (Judged.short m w) = verdict-one v w
 judged-text : {t : Bytes} {v : Node} → Judged t (Outcome.accepted v) → Text house t v
 judged-text (Judged.short l (Verdict.text x)) = x
 
--- The numbers that stand in a line: 2, 12 and 13 are none of them.
+-- The numbers that a text is refused with: 2, 12 and 13 are none of them.
 pub judged-number : {t : Bytes} {n p : ℕ} → Judged t (Outcome.refused n p) → (0 < n) × (n ≤ 9) × (n ≡ 2 → ⊥)
 judged-number (Judged.long h) = (omega arith, omega arith, λ e. omega (arith, e))
 judged-number (Judged.short l v) = let r = number-of-refusal v in (omega arith, omega arith, λ e. omega (arith, e))

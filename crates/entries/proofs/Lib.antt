@@ -3,6 +3,6 @@ pub mod Readings
 pub mod Outcomes
 pub mod Promises
 pub mod Slices
+pub mod Examples
 pub mod Tables
 pub mod Demands
-pub mod Examples

@@ -92,20 +92,20 @@ written-text (Written.written (Writer.done {v = v} r x y) e) =
     let z = sym f ∙ e in
     (v, ready-text r, subst (Canonical (meaning v)) z x, subst (λ c. length c ≤ maxText) z l)
 
--- Two accepted texts get the same bytes exactly when they mean the same.
+-- Two texts that are written get the same bytes exactly when they mean the same.
 pub writes-same : {s t c d : Bytes} {v u : Node} → Written s c → Written t d → Text house s v → Text house t u → (c ≡ d) ↔ (meaning v ≡ meaning u)
 writes-same {s} {t} {c} {d} f g x y =
     let (v′, x′, p, _) = written-text f in
     let (u′, y′, q, _) = written-text g in
     demand-2 x y (subst (λ v. Canonical (meaning v) c) (one-meaning s x′ x) p) (subst (λ u. Canonical (meaning u) d) (one-meaning t y′ y) q)
 
--- Reading what was written gives that meaning, with any table that is long enough, ...
-pub writes-back : {t c : Bytes} {v : Node} (w : Words) → Written t c → Text house t v → recordWords * length c ≤ length w
-    → (u : Node) × Reader c w (success (size u)) (over (table u) w) × (meaning u ≡ meaning v)
-writes-back {t} {c} w f x m =
+-- What was written is a text of that meaning, which the reader accepts with any table that is long enough, ...
+pub writes-back : {t c : Bytes} {v : Node} → Written t c → Text house t v
+    → (u : Node) × Text house c u × (meaning u ≡ meaning v) × ((w : Words) → recordWords * length c ≤ length w → Reader c w (success (size u)) (over (table u) w))
+writes-back {t} f x =
     let (v′, x′, p, l) = written-text f in
     let (u, y, e) = text-back x′ p in
-    (u, Reader.done (Reading.accepted l m y), e ∙ ap meaning (one-meaning t x′ x))
+    (u, y, e ∙ ap meaning (one-meaning t x′ x), λ w m. Reader.done (Reading.accepted l m y))
 
 -- ... and writing it again gives the same bytes.
 pub writes-settled : {t c d : Bytes} → Written t c → Written c d → c ≡ d
@@ -124,7 +124,7 @@ merged-text (Merged.merged (Merger.stopPatch r s) e) = absurd (omega (arith, sto
 merged-text (Merged.merged (Merger.done {v = v} {u = u} r s x y) e) =
     let (f, _) = wrote y in (v, u, ready-text r, ready-text s, subst (Canonical (mean (merge (tree v) (tree u)))) (sym f ∙ e) x)
 
--- So two replicas that are given texts of the same meanings write the same bytes.
+-- So two replicas that are given texts of the same meanings, and neither of which refuses, write the same bytes.
 pub merges-same : {t p c t′ p′ c′ : Bytes} {v u v′ u′ : Node} → Merged t p c → Merged t′ p′ c′
     → Text house t v → Text house p u → Text house t′ v′ → Text house p′ u′ → meaning v ≡ meaning v′ → meaning u ≡ meaning u′ → c ≡ c′
 merges-same {t} {p} {c} {t′} {p′} {c′} {v} {u} {v′} {u′} f g x y x′ y′ e h = canonical-one (subst (λ m. Canonical m c) (merge-respects x y x′ y′ e h) (of f x y)) (of g x′ y′)
@@ -134,7 +134,7 @@ merges-same {t} {p} {c} {t′} {p′} {c′} {v} {u} {v′} {u′} f g x y x′ 
         let (v′, u′, a, b, z) = merged-text f in
         subst (λ n. Canonical (mean (merge (tree n) (tree u))) c) (one-meaning t a x) (subst (λ n. Canonical (mean (merge (tree v′) (tree n))) c) (one-meaning p b y) z)
 
--- And the same patch again changes nothing.
+-- And the same patch again, where it is not refused, changes nothing.
 pub merges-settled : {t p c d : Bytes} → Merged t p c → Merged c p d → c ≡ d
 merges-settled {p = p} {c = c} f g =
     let (v, u, x, y, z) = merged-text f in
