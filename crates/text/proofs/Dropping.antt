@@ -26,7 +26,7 @@ module _ (B : Ceilings) (i : ℕ) where
   took-still (Took.yes p k) = Took.yes p (took-still k)
   took-still (Took.no p k) = Took.no p (took-still k)
 
-  fault-still : {m : Move} {k : ℕ} → ¬ (k ≡ i) → Cause B m k → Fault (without i B) m k
+  pub fault-still : {m : Move} {k : ℕ} → ¬ (k ≡ i) → Cause B m k → Fault (without i B) m k
   fault-still n (Cause.none h) = h i
   fault-still n (Cause.gate s t h) = h i n
 

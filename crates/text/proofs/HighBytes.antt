@@ -27,14 +27,14 @@ abbrev pub InString : Bytes → Type 0
 InString p = Viable house (p ++ (code "~" ∷ []))
 
 -- Some way through a move is open.
-opens : Move → Bool
+unfoldable pub opens : Move → Bool
 opens Move.bad = false
 opens (Move.go s) = true
 opens (Move.ask g s) = true
 opens (Move.when c x y) = cond c (opens x) (opens y)
 
 -- A move that is shut refuses its byte as wrong.
-shut : (m : Move) → T (not (opens m)) → Fault house m 4
+pub shut : (m : Move) → T (not (opens m)) → Fault house m 4
 unfolding opens
 shut Move.bad t = Fault.bad
 shut (Move.go s) t = absurd t

@@ -30,11 +30,11 @@ abbrev pub Breaks : Bytes → Type 0
 Breaks p = Viable house (p ++ (0x0a ∷ []))
 
 -- A line feed passes behind every value.
-pub break-after : (st : Stack) (v : Node) (n : ℕ) → (s : State) × Took house (afterMove st v n 0x0a) s
+pub break-after : (st : Stack) (v : Node) (n : ℕ) → Took house (afterMove st v n 0x0a) (State.after st v)
 unfolding afterMove
-break-after [] v n = (State.after [] v, Took.yes tt Took.go)
-break-after (Frame.array a vs ∷ st) v n = (State.after (Frame.array a vs ∷ st) v, Took.yes tt Took.go)
-break-after (Frame.object a ms q us ∷ st) v n = (State.after (Frame.object a ms q us ∷ st) v, Took.yes tt Took.go)
+break-after [] v n = Took.yes tt Took.go
+break-after (Frame.array a vs ∷ st) v n = Took.yes tt Took.go
+break-after (Frame.object a ms q us ∷ st) v n = Took.yes tt Took.go
 
 -- Where it passes, two digits or more stand last only in a number, and the state counts them.
 pub data Rests : State → Ending → Type 0 where
@@ -92,7 +92,7 @@ point-refused : {p : Bytes} {s : State} {j : ℕ} → Over p s j → Fitting hou
 unfolding move numberMove house isNumber
 point-refused w φ (Refuses.zero t g) = absurd g
 point-refused {p} {j = j} w (Fitting.number (Fits.whole _ a)) (Refuses.whole {neg = neg} {c = c} {n = n} {p = i} {st = st} t g) =
-    let (s, k) = break-after st (Node.number i j (normal neg c n 0 false 0)) j in
+    let k = break-after st (Node.number i j (normal neg c n 0 false 0)) j in
     let e : n ≡ maxDigits = omega (arith, digits-most a, nleb→lt (suc n) maxDigits g) in
     (goes-on 0x0a w (Took.no tt (Took.no tt (Took.no tt k))), subst (λ x. Ends x p) (whole-ending (stands w) ∙ ap Ending.digits e) (ends p))
 point-refused w (Fitting.other q) (Refuses.whole t g) = absurd q

@@ -1,27 +1,24 @@
--- 01's consequences for a number's exponent: a fourth digit is always refused as 7, and besides only a third, for a
--- number alone exactly where its normal exponent leaves the range.
+-- 01's consequences for a number's exponent: a fourth digit is always refused as 7, and besides only a third, exactly
+-- where the normal exponent leaves the range.
 use Prim.Native.Nat.{_<_, _≤_, suc, zero, ℕ}
+use Rattle.text.proofs.Awaiting.{Awaits}
 use Rattle.text.proofs.Blame.{Refuses, move-refuses}
-use Rattle.text.proofs.Decimals.{normal-sign}
 use Rattle.text.proofs.Digits.{andDigit}
 use Rattle.text.proofs.Endings.{Ending, Ends, andOne, count, count-one, ends, power-within}
 use Rattle.text.proofs.Fitting.{Fits, Fitting, isNumber}
+use Rattle.text.proofs.Inside.{Third, third-stands}
 use Rattle.text.proofs.LastDigits.{Breaks, Rests, break-after, power-most, rests}
-use Rattle.text.proofs.Limits.{Roomy, house-limits, roomy-without, wider}
 use Rattle.text.proofs.Machine.{Numeral, Stack, State, move, numberMove}
 use Rattle.text.proofs.Place.{Over, Passed, Refused, fits, goes-on, passes, refusal, refused-by, stuck}
-use Rattle.text.proofs.Residual.{Follows}
-use Rattle.text.proofs.Run.{Done, Fault, Took, follows-behind, follows-done}
+use Rattle.text.proofs.Run.{Fault, Took}
 use Rattle.text.proofs.Standing.{Stands, stands}
-use Rattle.text.proofs.Tests.{or-right}
-use Rattle.text.proofs.Way.{follows-went, text-follows}
 use Rattle.text.specs.Bytes.{Bytes, from, isDigit}
-use Rattle.text.specs.Ceilings.{Ceilings, Gate, house, maxPower, maxPowerDigits, numberOf, without}
+use Rattle.text.specs.Ceilings.{house, maxPower, maxPowerDigits, numberOf, without}
 use Rattle.text.specs.Decimal.{Decimal, exponentOf, normal}
-use Rattle.text.specs.Grammar.{Text}
 use Rattle.text.specs.Node.{Node}
+use Rattle.text.specs.Numbers.{Number}
 use Rattle.text.specs.Verdict.{Outcome, Verdict}
-use lib.Dec.{T, eqb, leb, leb→le, le→leb, nltb→le, not-T}
+use lib.Dec.{T, leb, leb→le, le→leb, nltb→le, not-T}
 use lib.ListN.{length}
 use mathlib.Core.Bool.{Bool, false}
 use mathlib.Core.List.{[], _++_, _∷_}
@@ -37,7 +34,7 @@ power-ending Stands.power = refl
 power-refused : {p : Bytes} {s : State} {j b : ℕ} → Over p s j → Fitting house s → Refuses house s b 7 → T (isDigit b) × Breaks p × (Ends (Ending.power 2) p ⊎ Ends (Ending.power maxPowerDigits) p)
 unfolding move numberMove isNumber
 power-refused {p} {j = j} w (Fitting.number (Fits.power _ _ _ _ a)) (Refuses.power {neg = neg} {c = c} {n = n} {f = f} {s = s} {e = e} {k = k} {p = i} {st = st} t q g) =
-    let (s′, l) = break-after st (Node.number i j (normal neg c n f s e)) j in
+    let l = break-after st (Node.number i j (normal neg c n f s e)) j in
     (t, goes-on 0x0a w (Took.no tt l), two-or-three k (nltb→le k 2 q) (power-most a) (subst (λ x. Ends x p) (power-ending (stands w)) (ends p)))
   where
     two-or-three : (k : ℕ) → 2 ≤ k → k ≤ 3 → Ends (Ending.power k) p → Ends (Ending.power 2) p ⊎ Ends (Ending.power maxPowerDigits) p
@@ -82,40 +79,24 @@ fourth-7 p r d t h = (λ v. only-7 p r d v .1, λ b. back (inside-power maxPower
     back : InPower p maxPowerDigits → Verdict house (p ++ (d ∷ r)) (Outcome.refused 7 (length p))
     back (InPower.in-power w) = refusal d r w (Fault.yes t (Fault.no tt (Fault.ask tt)))
 
--- The decimal of a number that ends the text.
-done-power : {neg s : Bool} {c n f e k i j a z : ℕ} {st : Stack} {x : Decimal} → Done (State.number (Numeral.power neg c n f s e k) i st) j (Node.number a z x) → x ≡ normal neg c n f s e
-done-power Done.power = refl
-
--- What the number with its third digit means where ceiling 7 is dropped.
-third-means : {p : Bytes} (d : ℕ) {neg s : Bool} {c n f e i j a z : ℕ} {st : Stack} {x : Decimal} → T (isDigit d) → Over p (State.number (Numeral.power neg c n f s e 2) i st) j
-    → Text (without 7 house) (p ++ (d ∷ [])) (Node.number a z x) → exponentOf x ≡ exponentOf (normal false c n f s (andDigit e d))
-unfolding move numberMove without numberOf
-third-means {p} d {neg} {s} {c} {n} {f} {e} {i} {j} {a} {z} {st} {x} t w y =
-    let B : Ceilings = without 7 house in
-    let roomy : Roomy B = roomy-without 7 (house-limits .roomy) in
-    let h : Follows B (State.number (Numeral.power neg c n f s e 2) i st) (from j (d ∷ [])) (Node.number a z x) = follows-went house house-limits B roomy (wider 7 house) w (text-follows y) in
-    let k : Took B (move (State.number (Numeral.power neg c n f s e 2) i st) j d) (State.number (Numeral.power neg c n f s (andDigit e d) 3) i st) =
-    Took.yes t (Took.no tt (Took.ask (or-right (house (Gate.power c n f s (andDigit e d) 3)) (eqb 7 7) tt))) in
-    ap exponentOf (done-power (follows-done B (follows-behind B (roomy .sane) k h))) ∙ normal-sign neg c n f s (andDigit e d)
-
--- A third digit, of a number that is the whole text, is refused as 7 exactly where the normal exponent leaves the range:
--- `x` is what the number with that digit means if ceiling 7 is dropped.
-pub third-7 : (p r : Bytes) (d : ℕ) {a z : ℕ} {x : Decimal} → T (isDigit d) → Ends (Ending.power 2) p → Breaks p → Text (without 7 house) (p ++ (d ∷ [])) (Node.number a z x)
-    → Verdict house (p ++ (d ∷ r)) (Outcome.refused 7 (length p)) ↔ (maxPower < exponentOf x)
+-- A third digit is refused as 7 exactly where it takes the normal exponent out of range: behind a number `s` with two,
+-- which stands where a value is due; `x` is what `s` with that digit means if ceiling 7 is dropped.
+pub third-7 : (q s r : Bytes) (d : ℕ) {a z : ℕ} {x : Decimal} → Awaits q → Ends (Ending.power 2) s → Number (without 7 house) (from a (s ++ (d ∷ []))) (from z []) x
+    → Verdict house ((q ++ s) ++ (d ∷ r)) (Outcome.refused 7 (length (q ++ s))) ↔ (maxPower < exponentOf x)
 unfolding move numberMove house numberOf
-third-7 p r d {x = x} t h b y = by (inside-power 2 (omega arith) b h)
+third-7 q s r d {x = x} a h y = by (third-stands q s d a h y)
   where
-    by : InPower p 2 → Verdict house (p ++ (d ∷ r)) (Outcome.refused 7 (length p)) ↔ (maxPower < exponentOf x)
-    by (InPower.in-power {s = s} {c = c} {n = n} {f = f} {e = e} w) = (λ v. there (refused-by p d r v), back)
+    p : Bytes
+    p = q ++ s
+
+    by : Third p d x → Verdict house (p ++ (d ∷ r)) (Outcome.refused 7 (length p)) ↔ (maxPower < exponentOf x)
+    by (Third.third {s = down} {c = c} {n = n} {f = f} {e = e} w t same) = (λ v. there (refused-by p d r v), back)
       where
         g : ℕ
-        g = exponentOf (normal false c n f s (andDigit e d))
-
-        same : exponentOf x ≡ g
-        same = third-means d t w y
+        g = exponentOf (normal false c n f down (andDigit e d))
 
         there : Refused p d 7 → maxPower < exponentOf x
-        there (Refused.refused o q) = let l : ¬ (g ≤ maxPower) = λ m. stuck d o q (goes-on d w (Took.yes t (Took.no tt (Took.ask (le→leb g maxPower m))))) in omega (arith, same)
+        there (Refused.refused o k) = let l : ¬ (g ≤ maxPower) = λ m. stuck d o k (goes-on d w (Took.yes t (Took.no tt (Took.ask (le→leb g maxPower m))))) in omega (arith, same)
 
         back : maxPower < exponentOf x → Verdict house (p ++ (d ∷ r)) (Outcome.refused 7 (length p))
-        back m = refusal d r w (Fault.yes t (Fault.no tt (Fault.ask (not-T (leb g maxPower) λ q. omega (arith, same, leb→le g maxPower q)))))
+        back m = refusal d r w (Fault.yes t (Fault.no tt (Fault.ask (not-T (leb g maxPower) λ k. omega (arith, same, leb→le g maxPower k)))))

@@ -22,8 +22,10 @@ pub mod Blame
 pub mod Endings
 pub mod Standing
 pub mod LastDigits
-pub mod LastPower
 pub mod HighBytes
+pub mod Awaiting
+pub mod Inside
+pub mod LastPower
 pub mod Every
 pub mod Takes
 pub mod Twice

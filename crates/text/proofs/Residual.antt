@@ -94,9 +94,13 @@ pub data Follows (C : Ceilings) : State → Source → Node → Type 0 where
       → Member C (suc (depthOf st)) (namesOf ms) w (from q o) l → After C st (Node.object a q (ontoMembers ms l)) (from q o) r → Follows C (State.member a ms st) w r
   named : {ms : Members} {st : Stack} {us : Units} {k a : ℕ} {w : Source} {r : Node} → AfterName C k a ms st us w r → Follows C (State.named k us a ms st) w r
 
+-- What holds of the state that a move leads to, where the ceilings let it pass.
+pub data Leads (C : Ceilings) (F : State → Type 0) : Move → Type 0 where
+  go : {s : State} → F s → Leads C F (Move.go s)
+  ask : {g : Gate} {s : State} → T (C g) → F s → Leads C F (Move.ask g s)
+  yes : {c : Bool} {x y : Move} → T c → Leads C F x → Leads C F (Move.when c x y)
+  no : {c : Bool} {x y : Move} → T (not c) → Leads C F y → Leads C F (Move.when c x y)
+
 -- What may follow once the machine has made a move.
-pub data Then (C : Ceilings) : Move → Source → Node → Type 0 where
-  go : {s : State} {w : Source} {r : Node} → Follows C s w r → Then C (Move.go s) w r
-  ask : {g : Gate} {s : State} {w : Source} {r : Node} → T (C g) → Follows C s w r → Then C (Move.ask g s) w r
-  yes : {c : Bool} {x y : Move} {w : Source} {r : Node} → T c → Then C x w r → Then C (Move.when c x y) w r
-  no : {c : Bool} {x y : Move} {w : Source} {r : Node} → T (not c) → Then C y w r → Then C (Move.when c x y) w r
+abbrev pub Then : Ceilings → Move → Source → Node → Type 0
+Then C m w r = Leads C (λ s. Follows C s w r) m

@@ -3,7 +3,7 @@ use Prim.Native.Nat.{suc, ℕ}
 use Rattle.text.proofs.Digits.{countFrom}
 use Rattle.text.proofs.Fitting.{Fits, Fitting, Sane, isNumber}
 use Rattle.text.proofs.Machine.{Move, Numeral, State, move}
-use Rattle.text.proofs.Residual.{After, AfterFraction, AfterName, AfterWhole, Follows, NumeralRest, Then}
+use Rattle.text.proofs.Residual.{After, AfterFraction, AfterName, AfterWhole, Follows, Leads, NumeralRest, Then}
 use Rattle.text.proofs.Step.{backward, forward}
 use Rattle.text.specs.Bytes.{Bytes, Source, Units, from, valueFrom}
 use Rattle.text.specs.Ceilings.{Ceilings, Gate, numberOf}
@@ -165,36 +165,37 @@ module _ (C : Ceilings) where
   judge (Move.when true x y) = judge-yes x y (judge x)
   judge (Move.when false x y) = judge-no x y (judge y)
 
-  pub then-took : {m : Move} {s : State} {w : Source} {r : Node} → Then C m w r → Took C m s → Follows C s w r
-  then-took (Then.go h) Took.go = h
-  then-took (Then.ask g h) (Took.ask _) = h
-  then-took (Then.yes p n) (Took.yes _ k) = then-took n k
-  then-took (Then.yes {c = c} p n) (Took.no q k) = absurd (T-not c q p)
-  then-took (Then.no {c = c} p n) (Took.yes q k) = absurd (T-not c p q)
-  then-took (Then.no p n) (Took.no _ k) = then-took n k
+  -- What a move leads to, where it passes; one that leads on is not refused.
+  pub leads-took : {F : State → Type 0} {m : Move} {s : State} → Leads C F m → Took C m s → F s
+  leads-took (Leads.go h) Took.go = h
+  leads-took (Leads.ask g h) (Took.ask _) = h
+  leads-took (Leads.yes p n) (Took.yes _ k) = leads-took n k
+  leads-took (Leads.yes {c = c} p n) (Took.no q k) = absurd (T-not c q p)
+  leads-took (Leads.no {c = c} p n) (Took.yes q k) = absurd (T-not c p q)
+  leads-took (Leads.no p n) (Took.no _ k) = leads-took n k
 
   pub took-then : {m : Move} {s : State} {w : Source} {r : Node} → Took C m s → Follows C s w r → Then C m w r
-  took-then Took.go h = Then.go h
-  took-then (Took.ask g) h = Then.ask g h
-  took-then (Took.yes p k) h = Then.yes p (took-then k h)
-  took-then (Took.no p k) h = Then.no p (took-then k h)
+  took-then Took.go h = Leads.go h
+  took-then (Took.ask g) h = Leads.ask g h
+  took-then (Took.yes p k) h = Leads.yes p (took-then k h)
+  took-then (Took.no p k) h = Leads.no p (took-then k h)
 
-  pub then-fault : {m : Move} {k : ℕ} {w : Source} {r : Node} → Then C m w r → Fault C m k → ⊥
-  then-fault (Then.ask {g = g} p h) (Fault.ask q) = T-not (C g) q p
-  then-fault (Then.yes p n) (Fault.yes _ f) = then-fault n f
-  then-fault (Then.yes {c = c} p n) (Fault.no q f) = T-not c q p
-  then-fault (Then.no {c = c} p n) (Fault.yes q f) = T-not c p q
-  then-fault (Then.no p n) (Fault.no _ f) = then-fault n f
+  pub leads-fault : {F : State → Type 0} {m : Move} {k : ℕ} → Leads C F m → Fault C m k → ⊥
+  leads-fault (Leads.ask {g = g} p h) (Fault.ask q) = T-not (C g) q p
+  leads-fault (Leads.yes p n) (Fault.yes _ f) = leads-fault n f
+  leads-fault (Leads.yes {c = c} p n) (Fault.no q f) = T-not c q p
+  leads-fault (Leads.no {c = c} p n) (Fault.yes q f) = T-not c p q
+  leads-fault (Leads.no p n) (Fault.no _ f) = leads-fault n f
 
   -- One byte, both ways.
   pub follows-before : {s s′ : State} {n b : ℕ} {w : Bytes} {r : Node} → Fitting C s → Took C (move s n b) s′ → Follows C s′ (from (suc n) w) r → Follows C s (from n (b ∷ w)) r
   follows-before {s} {n = n} {b = b} φ k h = backward C s n b φ (took-then k h)
 
   pub follows-behind : {s s′ : State} {n b : ℕ} {w : Bytes} {r : Node} → Sane C → Took C (move s n b) s′ → Follows C s (from n (b ∷ w)) r → Follows C s′ (from (suc n) w) r
-  follows-behind {s} {n = n} {b = b} sane k h = then-took (forward C sane s n b h) k
+  follows-behind {s} {n = n} {b = b} sane k h = leads-took (forward C sane s n b h) k
 
   pub follows-fault : {s : State} {n b k : ℕ} {w : Bytes} {r : Node} → Sane C → Fault C (move s n b) k → Follows C s (from n (b ∷ w)) r → ⊥
-  follows-fault {s} {n} {b} sane f h = then-fault (forward C sane s n b h) f
+  follows-fault {s} {n} {b} sane f h = leads-fault (forward C sane s n b h) f
 
   -- Nothing of the grammar is empty.
   value-some : {d : ℕ} {i o : Source} {v : Node} → Value C d i o v → Some i
@@ -230,7 +231,7 @@ module _ (C : Ceilings) where
   done-follows (Fitting.other q) Done.fraction = absurd q
   done-follows (Fitting.other q) Done.power = absurd q
 
-  pub follows-done : {s : State} {n : ℕ} {v : Node} → Follows C s (from n []) v → Done s n v
+  follows-done : {s : State} {n : ℕ} {v : Node} → Follows C s (from n []) v → Done s n v
   unfolding valueFrom countFrom
   follows-done (Follows.after (After.top End.end)) = Done.after
   follows-done (Follows.number (NumeralRest.zero (AfterWhole.fraction Fraction.none (AfterFraction.power Power.none l))) (After.top End.end)) = Done.zero

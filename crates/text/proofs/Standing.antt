@@ -140,7 +140,7 @@ module _ {C : Ceilings} where
   close-stands x (Use.name q a ms st) us n b p (Took.ask _) = byte x b (code "\"") p Stands.named
 
   -- One step.
-  step-stands : (s : State) (n b : ℕ) {x : Ending} {s′ : State} → Stands s x → Took C (move s n b) s′ → Stands s′ (next x b)
+  pub step-stands : (s : State) (n b : ℕ) {x : Ending} {s′ : State} → Stands s x → Took C (move s n b) s′ → Stands s′ (next x b)
   unfolding move next bare
   step-stands (State.number ns i st) n b h k = number-stands ns i st n b h k
   step-stands (State.value st) n b Stands.value k = value-stands st n b k

@@ -32,6 +32,15 @@ pub data Went (B : Ceilings) : State → ℕ → Bytes → State → ℕ → Typ
   none : {s : State} {n : ℕ} → Went B s n [] s n
   step : {s s′ s″ : State} {n b j : ℕ} {p : Bytes} → Took B (move s n b) s′ → Went B s′ (suc n) p s″ j → Went B s n (b ∷ p) s″ j
 
+-- Two ways, one behind the other, are one; and one over two parts is two.
+pub went-join : {B : Ceilings} {s s′ s″ : State} {n j k : ℕ} {p r : Bytes} → Went B s n p s′ j → Went B s′ j r s″ k → Went B s n (p ++ r) s″ k
+went-join Went.none w = w
+went-join (Went.step t v) w = Went.step t (went-join v w)
+
+pub went-split : {B : Ceilings} {s s′ : State} {n j : ℕ} (p : Bytes) {r : Bytes} → Went B s n (p ++ r) s′ j → (t : State) × (i : ℕ) × Went B s n p t i × Went B t i r s′ j
+went-split {s = s} {n = n} [] w = (s, n, Went.none, w)
+went-split (b ∷ p) (Went.step k w) = let (t, i, v, u) = went-split p w in (t, i, Went.step k v, u)
+
 module _ (B : Ceilings) (limits : Limits B) where
   pub fit-start : Fitting B initial
   unfolding isNumber
