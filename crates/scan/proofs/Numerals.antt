@@ -57,7 +57,7 @@ module _ (t : Bytes) where
       by p [] (Within.behind h) = finish t (State.number s p []) (w .end) h (d p) ∙ sym (finish t (State.after [] (Node.number p (w .end) (decimalOf w))) (w .end) h Done.after)
       by p (r ∷ st) (Within.behind h) = short t (State.number s p (r ∷ st)) (w .end) h (o p r st) ∙ sym (short t (State.after (r ∷ st) (Node.number p (w .end) (decimalOf w))) (w .end) h tt)
 
-  pub settle-zero : (neg : Bool) (i : ℕ) → i ≤ length t → T (not (eqb (getD t i 0) (code "."))) → T (not (isE (getD t i 0)))
+  settle-zero : (neg : Bool) (i : ℕ) → i ≤ length t → T (not (eqb (getD t i 0) (code "."))) → T (not (isE (getD t i 0)))
       → Settled t (Numeral.zero neg) i (record { negative = neg; coefficient = 0; digits = 1; fraction = 0; down = false; power = 0; end = i })
   unfolding numberMove isDone
   settle-zero neg i b q r =

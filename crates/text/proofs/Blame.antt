@@ -3,9 +3,8 @@
 use Prim.Native.Char.{code}
 use Prim.Native.Nat.{_<_, suc, ℕ}
 use Rattle.text.proofs.Digits.{andDigit}
-use Rattle.text.proofs.Longest.{parts-at}
-use Rattle.text.proofs.Machine.{Frame, Numeral, Stack, State, Use, afterMove, closeMove, memberMove, move, numberMove, onto, otherMove, valueMove}
-use Rattle.text.proofs.Place.{Refused, refused-by}
+use Rattle.text.proofs.Machine.{Frame, Numeral, Stack, State, Use, afterMove, closeMove, memberMove, move, namesOf, numberMove, onto, otherMove, valueMove}
+use Rattle.text.proofs.Place.{Refused, refused-inside}
 use Rattle.text.proofs.Run.{Fault}
 use Rattle.text.proofs.Tests.{or-left, or-right}
 use Rattle.text.specs.Bytes.{Bytes, Units, isDigit, isHigh}
@@ -14,11 +13,9 @@ use Rattle.text.specs.Decimal.{normal}
 use Rattle.text.specs.Node.{Members, Node, Nodes}
 use Rattle.text.specs.Verdict.{Outcome, Verdict}
 use lib.Dec.{T, eqb, ltb}
-use lib.ListN.{drop, getD, length, length-take, take}
+use lib.ListN.{getD, length, take}
 use mathlib.Core.Bool.{Bool, _||_, false, not}
 use mathlib.Core.List.{[], _∷_}
-use mathlib.Core.Path.{_≡_, subst₂, sym}
-use native.Mathlib.Omega.{arith}
 
 -- The byte `b` may be blamed with the number `k`.
 pub data Blamed : ℕ → ℕ → Type 0 where
@@ -29,7 +26,7 @@ pub data Blamed : ℕ → ℕ → Type 0 where
   name : {b : ℕ} → T (eqb b (code "\"")) → Blamed 8 b
   high : {b : ℕ} → T (isHigh b) → Blamed 9 b
 
--- The same with the state that refuses, where a number's ceilings speak.
+-- The same with the state that refuses, where the ceilings of numbers and names speak.
 pub data Refuses (C : Ceilings) : State → ℕ → ℕ → Type 0 where
   wrong : {s : State} {b : ℕ} → Refuses C s b 4
   depth : {s : State} {b : ℕ} → T (eqb b (code "[") || eqb b (code "{")) → Refuses C s b 5
@@ -39,7 +36,7 @@ pub data Refuses (C : Ceilings) : State → ℕ → ℕ → Type 0 where
   fraction : {neg : Bool} {c n f p : ℕ} {st : Stack} {b : ℕ} → T (isDigit b) → Refuses C (State.number (Numeral.fraction neg c n f) p st) b 6
   power : {neg : Bool} {c n f : ℕ} {s : Bool} {e k p : ℕ} {st : Stack} {b : ℕ}
       → T (isDigit b) → T (not (ltb k 2)) → T (not (C (Gate.power c n f s (andDigit e b) (suc k)))) → Refuses C (State.number (Numeral.power neg c n f s e k) p st) b 7
-  name : {s : State} {b : ℕ} → T (eqb b (code "\"")) → Refuses C s b 8
+  name : {q a b : ℕ} {l : Units} {ms : Members} {st : Stack} → T (eqb b (code "\"")) → T (not (C (Gate.name (onto l []) (namesOf ms)))) → Refuses C (State.chars (Use.name q a ms st) l) b 8
   high : {s : State} {b : ℕ} → T (isHigh b) → Refuses C s b 9
 
 module _ {C : Ceilings} where
@@ -73,9 +70,9 @@ module _ {C : Ceilings} where
   number-refuses (Numeral.power neg c m f s e j) p st n b (Fault.yes t (Fault.no q (Fault.ask g))) = Refuses.power t q g
   number-refuses (Numeral.power neg c m f s e j) p st n b (Fault.no _ x) = after-refuses st (Node.number p n (normal neg c m f s e)) n b x
 
-  close-refuses : {s : State} (u : Use) (us : Units) (n : ℕ) {b k : ℕ} → T (eqb b (code "\"")) → Fault C (closeMove u us n) k → Refuses C s b k
+  close-refuses : (u : Use) (l : Units) (n : ℕ) {b k : ℕ} → T (eqb b (code "\"")) → Fault C (closeMove u (onto l []) n) k → Refuses C (State.chars u l) b k
   unfolding closeMove numberOf
-  close-refuses (Use.name q a ms st) us n t (Fault.ask _) = Refuses.name t
+  close-refuses (Use.name q a ms st) l n t (Fault.ask g) = Refuses.name t g
 
   member-refuses : {s : State} (a : ℕ) (ms : Members) (st : Stack) (n b : ℕ) {k : ℕ} → Fault C (memberMove a ms st n b) k → Refuses C s b k
   unfolding memberMove
@@ -90,7 +87,7 @@ module _ {C : Ceilings} where
   move-refuses (State.after st v) n b f = after-refuses st v n b f
   move-refuses (State.literal k ks v a st) n b (Fault.no _ Fault.bad) = Refuses.wrong
   move-refuses (State.chars u us) n b (Fault.no _ (Fault.yes p (Fault.ask _))) = Refuses.high p
-  move-refuses (State.chars u us) n b (Fault.no _ (Fault.no _ (Fault.yes p f))) = close-refuses u (onto us []) n p f
+  move-refuses (State.chars u us) n b (Fault.no _ (Fault.no _ (Fault.yes p f))) = close-refuses u us n p f
   move-refuses (State.chars u us) n b (Fault.no _ (Fault.no _ (Fault.no _ (Fault.no _ Fault.bad)))) = Refuses.wrong
   move-refuses (State.escape u us) n b (Fault.no _ (Fault.no _ Fault.bad)) = Refuses.wrong
   move-refuses (State.hex l a u us) n b (Fault.no _ Fault.bad) = Refuses.wrong
@@ -105,13 +102,11 @@ blamed {b = b} (Refuses.zero t g) = Blamed.digits (or-right (isDigit b) (eqb b (
 blamed (Refuses.whole t g) = Blamed.digits t
 blamed {b = b} (Refuses.fraction t) = Blamed.digits (or-left (isDigit b) (eqb b (code ".")) t)
 blamed (Refuses.power t q g) = Blamed.power t
-blamed (Refuses.name t) = Blamed.name t
+blamed (Refuses.name t g) = Blamed.name t
 blamed (Refuses.high t) = Blamed.high t
 
 pub refused-byte : {t : Bytes} {n P : ℕ} → Verdict house t (Outcome.refused n P) → P < length t → Blamed n (getD t P 0)
-refused-byte {t} {n} {P} v l =
-    let m : length (take P t) ≡ P = omega (arith, length-take P t) in
-    by (refused-by (take P t) (getD t P 0) (drop (suc P) t) (subst₂ (λ u i. Verdict house u (Outcome.refused n i)) (parts-at P t l) (sym m) v))
+refused-byte {t} {n} {P} v l = by (refused-inside v l)
   where
     by : {b : ℕ} → Refused (take P t) b n → Blamed n b
     by {b} (Refused.refused {s = s} {j = j} w f) = blamed (move-refuses s j b f)

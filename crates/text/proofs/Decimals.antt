@@ -1,5 +1,5 @@
 -- Normal form: what `zeros` and `strip` give, and its exponent.
-use Prim.Native.Nat.{_%_, _*_, _+_, _-_, _/_, _<_, _^_, _≤_, suc, zero, ℕ}
+use Prim.Native.Nat.{_%_, _*_, _+_, _/_, _<_, _^_, _≤_, suc, zero, ℕ}
 use Rattle.text.specs.Decimal.{Decimal, exponentOf, normal, scaled, strip, zeros}
 use borrow.Author.Tests.{eqb-false, eqb-true, ne-eqb}
 use lib.Dec.{eqb, leb}
@@ -34,7 +34,7 @@ strip-most (suc n) c = by (eqb (c % 10) 0) (strip-most n (c / 10))
     by true h = omega arith
     by false h = omega arith
 
-pub zeros-most : (n c : ℕ) → zeros n c ≤ n
+zeros-most : (n c : ℕ) → zeros n c ≤ n
 unfolding zeros
 zeros-most zero c = omega arith
 zeros-most (suc n) c = by (eqb (c % 10) 0) (zeros-most n (c / 10))
@@ -54,39 +54,35 @@ unfolding strip
 strip-none zero c h = refl
 strip-none (suc n) c h = ap (λ b. elim b as (λ _. ℕ) [ true ↦ strip n (c / 10) | false ↦ c ]) (ne-eqb (c % 10) 0 h)
 
+-- What is true of both sides of a test is true of the side that it takes; the same of two tests that are one.
+chosen : (P : Decimal → Type 0) (b : Bool) {x y : Decimal} → P x → P y → P (cond b x y)
+chosen P true p q = p
+chosen P false p q = q
+
+both-chosen : (R : Decimal → Decimal → Type 0) (b : Bool) {x y z w : Decimal} → R x z → R y w → R (cond b x y) (cond b z w)
+both-chosen R true p q = p
+both-chosen R false p q = q
+
 -- The exponent of a normal form: the sign has no part in it, ...
-scaled-sign : (neg : Bool) (c p m : ℕ) → exponentOf (scaled neg c p m) ≡ exponentOf (scaled false c p m)
+abbrev Alike : Decimal → Decimal → Type 0
+Alike x y = exponentOf x ≡ exponentOf y
+
+scaled-sign : (neg : Bool) (c p m : ℕ) → Alike (scaled neg c p m) (scaled false c p m)
 unfolding scaled exponentOf
-scaled-sign neg c p m = by (leb m p)
-  where
-    by : (b : Bool) → exponentOf (cond b (Decimal.decimal neg c false (p - m)) (Decimal.decimal neg c true (m - p))) ≡ exponentOf (cond b (Decimal.decimal false c false (p - m)) (Decimal.decimal false c true (m - p)))
-    by true = refl
-    by false = refl
+scaled-sign neg c p m = both-chosen Alike (leb m p) refl refl
 
 pub normal-sign : (neg : Bool) (c n f : ℕ) (down : Bool) (e : ℕ) → exponentOf (normal neg c n f down e) ≡ exponentOf (normal false c n f down e)
-unfolding normal
-normal-sign neg c n f down e = by (eqb c 0) down
-  where
-    by : (b down : Bool) → exponentOf (cond b (Decimal.decimal false 0 false 0) (cond down (scaled neg (strip n c) (zeros n c) (e + f)) (scaled neg (strip n c) (e + zeros n c) f)))
-        ≡ exponentOf (cond b (Decimal.decimal false 0 false 0) (cond down (scaled false (strip n c) (zeros n c) (e + f)) (scaled false (strip n c) (e + zeros n c) f)))
-    by true down = refl
-    by false true = scaled-sign neg (strip n c) (zeros n c) (e + f)
-    by false false = scaled-sign neg (strip n c) (e + zeros n c) f
+unfolding normal exponentOf
+normal-sign neg c n f down e = both-chosen Alike (eqb c 0) refl (both-chosen Alike down (scaled-sign neg _ _ _) (scaled-sign neg _ _ _))
 
 -- ... and it is no more than what it is made of together.
-scaled-exponent : (neg : Bool) (c p m : ℕ) → exponentOf (scaled neg c p m) ≤ p + m
+scaled-exponent : (neg : Bool) (c p m : ℕ) {k : ℕ} → p + m ≤ k → exponentOf (scaled neg c p m) ≤ k
 unfolding scaled exponentOf
-scaled-exponent neg c p m = by (leb m p)
-  where
-    by : (b : Bool) → exponentOf (cond b (Decimal.decimal neg c false (p - m)) (Decimal.decimal neg c true (m - p))) ≤ p + m
-    by true = omega arith
-    by false = omega arith
+scaled-exponent neg c p m {k} h = chosen (λ x. exponentOf x ≤ k) (leb m p) (omega arith) (omega arith)
 
 pub normal-exponent : (neg : Bool) (c n f : ℕ) (down : Bool) (e : ℕ) → exponentOf (normal neg c n f down e) ≤ e + f + n
 unfolding normal exponentOf
-normal-exponent neg c n f down e = by (eqb c 0) down
-  where
-    by : (b down : Bool) → exponentOf (cond b (Decimal.decimal false 0 false 0) (cond down (scaled neg (strip n c) (zeros n c) (e + f)) (scaled neg (strip n c) (e + zeros n c) f))) ≤ e + f + n
-    by true down = omega arith
-    by false true = omega (arith, scaled-exponent neg (strip n c) (zeros n c) (e + f), zeros-most n c)
-    by false false = omega (arith, scaled-exponent neg (strip n c) (e + zeros n c) f, zeros-most n c)
+normal-exponent neg c n f down e =
+    let h = zeros-most n c in
+    let P : Decimal → Type 0 = λ x. exponentOf x ≤ e + f + n in
+    chosen P (eqb c 0) (omega arith) (chosen P down (scaled-exponent neg _ _ _ (omega arith)) (scaled-exponent neg _ _ _ (omega arith)))

@@ -61,7 +61,7 @@ fault-range (Fault.yes p f) = fault-range f
 fault-range (Fault.no p f) = fault-range f
 
 -- Where and how a run ends.
-pub data Split (B : Ceilings) (s : State) (n : ℕ) : Bytes → Outcome → Type 0 where
+data Split (B : Ceilings) (s : State) (n : ℕ) : Bytes → Outcome → Type 0 where
   accepted : {t : Bytes} {v : Node} → Split B s n t (Outcome.accepted v)
   short : {s′ : State} {t : Bytes} {m : ℕ} → Went B s n t s′ m → m ≡ n + length t → Split B s n t (Outcome.refused 3 m)
   off : {s′ : State} (p : Bytes) (b : ℕ) (q : Bytes) {k m : ℕ} → Went B s n p s′ m → Fault B (move s′ m b) k → m ≡ n + length p → Split B s n (p ++ (b ∷ q)) (Outcome.refused k m)
@@ -71,7 +71,7 @@ split-on b k Split.accepted = Split.accepted
 split-on b k (Split.short {m = m} w e) = Split.short {m = m} (Went.step k w) (omega arith)
 split-on b k (Split.off p c q {m = m} w f e) = Split.off (b ∷ p) c q {m = m} (Went.step k w) f (omega arith)
 
-pub split : {B : Ceilings} {s : State} {n : ℕ} {t : Bytes} {a : Outcome} → Run B s n t a → Split B s n t a
+split : {B : Ceilings} {s : State} {n : ℕ} {t : Bytes} {a : Outcome} → Run B s n t a → Split B s n t a
 split (Run.ends d) = Split.accepted
 split (Run.short {n = n} f) = Split.short {m = n} Went.none (omega arith)
 split (Run.on {b = b} k ρ) = split-on b k (split ρ)
@@ -92,9 +92,8 @@ viable-cut C p q (w, v, x) = (q ++ w, v, subst (λ t. Text C t v) (append-assoc 
 
 module _ (B : Ceilings) (limits : Limits B) where
   -- The machine's outcome is what the rules say.
-  pub at-fault : (p : Bytes) (b : ℕ) (q : Bytes) (k : ℕ) {s : State} {j : ℕ} → Went B initial 0 p s j → Fault B (move s j b) k → Cause B (move s j b) k
-      → Verdict B (p ++ (b ∷ q)) (Outcome.refused k (length p))
-  at-fault p b q k {s} {j} w f c = by c
+  pub at-fault : (p : Bytes) (b : ℕ) (q : Bytes) {k : ℕ} {s : State} {j : ℕ} → Went B initial 0 p s j → Fault B (move s j b) k → Verdict B (p ++ (b ∷ q)) (Outcome.refused k (length p))
+  at-fault p b q {s = s} {j = j} w f = by (cause f)
     where
       inside : length p < length (p ++ (b ∷ q))
       inside = omega (arith, length-append p (b ∷ q))
@@ -117,7 +116,7 @@ module _ (B : Ceilings) (limits : Limits B) where
       not-both : {n m : ℕ} {v : Node} → Outcome.refused n m ≡ Outcome.accepted v → ⊥
       not-both e = let z : _≡_ {A = ℕ} 0 1 = cc in omega arith
   right-run ρ (Split.off p b q {k} w f e) =
-      subst⁻¹ (λ n. Verdict B (p ++ (b ∷ q)) (Outcome.refused k n)) (e ∙ zero-add (length p)) (at-fault p b q k w f (cause f))
+      subst⁻¹ (λ n. Verdict B (p ++ (b ∷ q)) (Outcome.refused k n)) (e ∙ zero-add (length p)) (at-fault p b q w f)
 
   -- Where the rules place a fault, the machine stops, and the cause tells the number.
   data Stop (p : Bytes) (b : ℕ) (a : Outcome) : Type 0 where

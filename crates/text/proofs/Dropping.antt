@@ -1,11 +1,12 @@
 -- What dropping one ceiling, but not that of digits, changes: a verdict with another number, or none, stays as it is, and
--- a text that this ceiling refused is accepted or refused at a later place. So a reader
--- may judge repeated names behind everything else.
+-- a text that this ceiling refused is accepted or refused at a later place. So a reader may judge repeated names behind
+-- everything else.
 use Prim.Native.Nat.{_<_, _≤_, suc, ℕ}
 use Rattle.text.proofs.Demand3.{Cause, cause, run-verdict, verdict-run}
 use Rattle.text.proofs.Limits.{Limits, limits-without, wider}
 use Rattle.text.proofs.Machine.{Move, State}
 use Rattle.text.proofs.Run.{Fault, Run, Took, took-fault, took-one}
+use Rattle.text.proofs.Way.{took-wide}
 use Rattle.text.specs.Bytes.{Bytes}
 use Rattle.text.specs.Ceilings.{Ceilings, without}
 use Rattle.text.specs.Verdict.{Outcome, Verdict}
@@ -19,13 +20,7 @@ run-place (Run.on k ρ) = omega (arith, run-place ρ)
 run-place (Run.off f) = omega arith
 
 module _ (B : Ceilings) (i : ℕ) where
-  -- A move that passes still does, and a refusal with another number stays.
-  pub took-still : {m : Move} {s : State} → Took B m s → Took (without i B) m s
-  took-still Took.go = Took.go
-  took-still (Took.ask {g = g} t) = Took.ask (wider i B g t)
-  took-still (Took.yes p k) = Took.yes p (took-still k)
-  took-still (Took.no p k) = Took.no p (took-still k)
-
+  -- A refusal with another number stays.
   pub fault-still : {m : Move} {k : ℕ} → ¬ (k ≡ i) → Cause B m k → Fault (without i B) m k
   fault-still n (Cause.none h) = h i
   fault-still n (Cause.gate s t h) = h i n
@@ -38,13 +33,13 @@ module _ (B : Ceilings) (i : ℕ) where
   run-still : {s : State} {n : ℕ} {t : Bytes} {a : Outcome} → ((P : ℕ) → ¬ (a ≡ Outcome.refused i P)) → Run B s n t a → Run (without i B) s n t a
   run-still f (Run.ends d) = Run.ends d
   run-still f (Run.short u) = Run.short u
-  run-still f (Run.on k ρ) = Run.on (took-still k) (run-still f ρ)
+  run-still f (Run.on k ρ) = Run.on (took-wide (wider i B) k) (run-still f ρ)
   run-still f (Run.off {n = n} {k = k} e) = Run.off (fault-still (λ z. f n (ap (λ k. Outcome.refused k n) z)) (cause e))
 
   run-later : {s : State} {n j k P Q : ℕ} {t : Bytes} → 4 < i → j ≡ i → Run B s n t (Outcome.refused j P) → Run (without i B) s n t (Outcome.refused k Q) → P < Q
   run-later h e (Run.short u) y = absurd (omega arith)
-  run-later h e (Run.on k ρ) (Run.off f) = absurd (took-fault (took-still k) f)
-  run-later h e (Run.on k ρ) (Run.on {n = n} {t = t} {a = a} k′ ρ′) = run-later h e ρ (subst (λ s. Run (without i B) s (suc n) t a) (took-one k′ (took-still k)) ρ′)
+  run-later h e (Run.on k ρ) (Run.off f) = absurd (took-fault (took-wide (wider i B) k) f)
+  run-later h e (Run.on k ρ) (Run.on {n = n} {t = t} {a = a} k′ ρ′) = run-later h e ρ (subst (λ s. Run (without i B) s (suc n) t a) (took-one k′ (took-wide (wider i B) k)) ρ′)
   run-later h e (Run.off f) (Run.on k ρ) = omega (arith, run-place ρ)
   run-later h e (Run.off f) (Run.off g) = absurd (both-refuse h e (cause f) g)
 

@@ -8,9 +8,10 @@ use Rattle.text.proofs.Machine.{Frame, Move, Numeral, Stack, State, Use
 use Rattle.text.proofs.Place.{Over, Passed, Refused, goes-on, over, passes, refusal, refused-by, stuck}
 use Rattle.text.proofs.Run.{Fault, Took, fault-one, took-fault}
 use Rattle.text.proofs.Standing.{Stands, lower, stands}
-use Rattle.text.proofs.Tests.{and-left, and-right, below, both, each, high-least, plain-most}
+use Rattle.text.proofs.Step.{high≢plain}
+use Rattle.text.proofs.Tests.{and-left, and-right, below, both, each, high-least}
 use Rattle.text.proofs.Way.{viable}
-use Rattle.text.specs.Bytes.{Bytes, Units, isDigit, isE, isHigh, isPlain}
+use Rattle.text.specs.Bytes.{Bytes, Units, isDigit, isE, isHigh}
 use Rattle.text.specs.Ceilings.{house, numberOf}
 use Rattle.text.specs.Decimal.{normal}
 use Rattle.text.specs.Node.{Literal, Node}
@@ -42,8 +43,8 @@ shut (Move.ask g s) t = absurd t
 shut (Move.when true x y) t = Fault.yes tt (shut x t)
 shut (Move.when false x y) t = Fault.no tt (shut y t)
 
--- From `~` on no other byte has a meaning: a test that each byte up to FF fails, by computation, and a move that none
--- of them opens.
+-- Outside a string's characters no byte from `~` on has a meaning: a test that each byte up to FF fails, by computation,
+-- and a move that none of them opens.
 abbrev Beyond : (ℕ → Type 0) → Type 0
 Beyond P = (b : ℕ) → code "~" ≤ b → b ≤ 0xff → P b
 
@@ -113,7 +114,7 @@ data High (s : State) (n b : ℕ) : Type 0 where
 high : (s : State) (n b : ℕ) → T (isHigh b) → Due s n → High s n b
 unfolding move house numberOf
 high (State.chars u us) n b t Due.character =
-    High.nine (State.chars u (code "~" ∷ us)) (Fault.no (not-T (isPlain b) λ p. omega (arith, plain-most b p, high-least b t)) (Fault.yes t (Fault.ask tt))) (Took.yes tt Took.go)
+    High.nine (State.chars u (code "~" ∷ us)) (Fault.no (high≢plain b t) (Fault.yes t (Fault.ask tt))) (Took.yes tt Took.go)
 high s n b t (Due.other f) = High.four (f b (omega (arith, high-least b t)) (leb→le b 0xff (and-right (leb 0x80 b) (leb b 0xff) t))) (f (code "~") (omega arith) (omega arith))
 
 module _ (p r : Bytes) (b : ℕ) (t : T (isHigh b)) where

@@ -6,9 +6,9 @@ use Rattle.text.proofs.Blame.{Refuses, move-refuses}
 use Rattle.text.proofs.Decimals.{normal-sign}
 use Rattle.text.proofs.Demand3.{cause}
 use Rattle.text.proofs.Digits.{andDigit}
-use Rattle.text.proofs.Dropping.{fault-still, took-still}
+use Rattle.text.proofs.Dropping.{fault-still}
 use Rattle.text.proofs.Endings.{Ending, Ends, andOne, count, ending, endingFrom, next, next-digit, power-within}
-use Rattle.text.proofs.Limits.{house-limits, roomy-without}
+use Rattle.text.proofs.Limits.{house-limits, roomy-without, wider}
 use Rattle.text.proofs.Machine.{Frame, Numeral, Stack, State, move}
 use Rattle.text.proofs.Place.{Over}
 use Rattle.text.proofs.Residual.{Leads, NumeralRest}
@@ -16,7 +16,7 @@ use Rattle.text.proofs.Run.{Fault, Judged, Took, judge, leads-fault, le
 use Rattle.text.proofs.Standing.{Stands, step-stands}
 use Rattle.text.proofs.Step.{number-not, number-starts}
 use Rattle.text.proofs.StepNumber.{number-leads}
-use Rattle.text.proofs.Way.{Went, went-join}
+use Rattle.text.proofs.Way.{Went, took-wide, went-join}
 use Rattle.text.specs.Bytes.{Bytes, Source, from, isDigit, valueFrom}
 use Rattle.text.specs.Ceilings.{Ceilings, house, without}
 use Rattle.text.specs.Decimal.{Decimal, exponentOf, normal}
@@ -96,7 +96,7 @@ module _ (w : Bytes) where
       on k (Reached.reached v r u) = Reached.reached (Went.step k v) r u
 
       by : ((s′ : State) → Ahead s′ (p ++ w) x → Stands s′ (next y b) → Reached x s′ (suc n) p) → Judged house (move s n b) → Reached x s n (b ∷ p)
-      by f (Judged.took s′ k) = on k (f s′ (leads-took Loose (ahead-leads s n b h) (took-still house 7 k)) (step-stands s n b t k))
+      by f (Judged.took s′ k) = on k (f s′ (leads-took Loose (ahead-leads s n b h) (took-wide (wider 7 house) k)) (step-stands s n b t k))
       by f (Judged.fault k g) = absurd (not-before s n b k p h t e g)
 
 -- The machine stands behind two digits of an exponent, and the digit `d` makes the number mean `x`.

@@ -28,6 +28,7 @@ pub mod Inside
 pub mod LastPower
 pub mod Every
 pub mod Takes
+pub mod Sources
 pub mod Twice
 pub mod Open
 pub mod Opening

@@ -1,22 +1,23 @@
 -- 01's consequence on repeated names, both ways: the refusal 8 is at the closing quote of a name that stood before in its
 -- object, and each such quote is refused so if what stands before it is not refused.
 use Prim.Native.Char.{code}
-use Prim.Native.Nat.{_+_, _<_, _≤_, suc, zero, ℕ}
-use Rattle.text.proofs.Blame.{Blamed, refused-byte}
-use Rattle.text.proofs.Demand3.{Split, place-longest, run-verdict, split, verdict-one, verdict-run, viable-cut}
-use Rattle.text.proofs.Dropping.{took-still}
+use Prim.Native.Nat.{_+_, _<_, _≤_, suc, ℕ}
+use Rattle.text.proofs.Blame.{Blamed, Refuses, move-refuses, refused-byte}
+use Rattle.text.proofs.Demand3.{place-longest, run-verdict, verdict-one, verdict-run, viable-cut}
 use Rattle.text.proofs.Limits.{house-limits, limits-without, roomy-without, wider}
-use Rattle.text.proofs.Longest.{take-next, take-past}
+use Rattle.text.proofs.Longest.{longest-one, parts-at, take-next, take-past}
 use Rattle.text.proofs.Machine.{Stack, State, Use, closeMove, memberMove, move, namesOf, onto}
 use Rattle.text.proofs.Open.{onto-members, onto-nodes}
-use Rattle.text.proofs.Opening.{Opened, Shut, name-opened, shut-at, twice-opened}
-use Rattle.text.proofs.Quotes.{At, at-is, chars-stop, in-text, next}
+use Rattle.text.proofs.Opening.{Opened, name-opened, twice-opened}
+use Rattle.text.proofs.Place.{Over, Refused, over, refused-inside}
+use Rattle.text.proofs.Quotes.{chars-stop, in-text}
 use Rattle.text.proofs.Residual.{After, AfterName, Follows}
-use Rattle.text.proofs.Run.{Fault, Judged, Run, Took, follows-behind, follows-fault, judge, took-one}
+use Rattle.text.proofs.Run.{Fault, Run, Took, follows-behind, took-one}
+use Rattle.text.proofs.Sources.{At, at-byte, at-drop, at-next}
 use Rattle.text.proofs.Takes.{chars-take}
 use Rattle.text.proofs.Tests.{or-right}
 use Rattle.text.proofs.Twice.{Closes, Repeated, Twice, TwiceAll, TwiceMembers}
-use Rattle.text.proofs.Way.{Went, follows-went, initial, text-follows}
+use Rattle.text.proofs.Way.{Went, follows-went, initial, text-follows, took-wide}
 use Rattle.text.specs.Bytes.{Bytes, Source, Units, from}
 use Rattle.text.specs.Ceilings.{Ceilings, Gate, among, house, numberOf, without}
 use Rattle.text.specs.Grammar.{Named, Text}
@@ -24,12 +25,13 @@ use Rattle.text.specs.Node.{Members, Node}
 use Rattle.text.specs.Strings.{Chars}
 use Rattle.text.specs.Verdict.{Outcome, Verdict, Viable}
 use lib.Dec.{T, T-not, eqb→eq, not-T}
-use lib.ListN.{drop, getD, length, length-drop, take}
-use lib.Seq.{drop-at, getD-at}
-use mathlib.Core.Bool.{Bool, false, not, true}
+use lib.ListN.{drop, getD, length, length-drop, take, take-append-drop}
+use lib.Seq.{drop-at, length-take-le, take-append-le, take-suc, take-take}
+use mathlib.Core.Bool.{not, true}
 use mathlib.Core.List.{List, [], _++_, _∷_, append-assoc}
 use mathlib.Core.Logic.{_↔_}
 use mathlib.Core.Path.{_∙_, _≡_, ap, refl, subst, subst⁻¹, sym}
+use mir.Facts.{T-not-not}
 use native.Mathlib.Omega.{arith}
 use Rattle.text.specs.Grammar as rule
 
@@ -67,76 +69,71 @@ among-shut us ns t = not-T (not (among us ns)) λ n. T-not (among us ns) n t
 
 shut-among : (us : Units) (ns : List Units) → T (not (house (Gate.name us ns))) → T (among us ns)
 unfolding house
-shut-among us ns t = by (among us ns) t
-  where
-    by : (a : Bool) → T (not (not a)) → T a
-    by true t = tt
-    by false t = absurd t
+shut-among us ns t = T-not-not (among us ns) t
 
 -- A name that stood before is refused at its closing quote.
 refused-at : {t p r o : Bytes} {q a m : ℕ} {us : Units} {ms : Members} {st : Stack}
-    → Went house initial 0 p (State.member a ms st) q → t ≡ p ++ (code "\"" ∷ r) → T (among us (namesOf ms)) → Chars house (from (suc q) r) (from (suc m) o) us → Verdict house t (Outcome.refused 8 m)
+    → Over p (State.member a ms st) q → t ≡ p ++ (code "\"" ∷ r) → T (among us (namesOf ms)) → Chars house (from (suc q) r) (from (suc m) o) us → Verdict house t (Outcome.refused 8 m)
 unfolding move memberMove closeMove numberOf onto
 refused-at {q = q} {a = a} {m = m} {us = us} {ms = ms} {st = st} w e h x =
     subst⁻¹ (λ t. Verdict house t (Outcome.refused 8 m)) e
     (run-verdict house-limits (went-run w (Run.on (Took.no tt (Took.yes tt Took.go)) (chars-stop (Use.name q a ms st) [] x (Fault.ask (among-shut us (namesOf ms) h))))))
 
+-- Where 8 is given: inside the text, at a quote.
 refused-over : {t : Bytes} {P : ℕ} → Verdict house t (Outcome.refused 8 P) → (P < length t) × Viable (without 8 house) (take (suc P) t)
 refused-over (Verdict.over l _ x) = (l, x)
 
--- From a refusal to the name: the machine has read `p` and stops at a quote that closes a name whose units are `l`, last
--- first.
-module _ {t : Bytes} (p i : Bytes) {q a P : ℕ} {l : Units} {ms : Members} {st : Stack} (e : t ≡ p ++ (code "\"" ∷ i)) (n : length p ≡ P)
-    (w : Went house initial 0 p (State.chars (Use.name q a ms st) l) P) (h : T (among (onto l []) (namesOf ms))) where
-  stops-twice : (z : Bytes) {v : Node} → Text (without 8 house) (take (suc P) t ++ z) v → Twice q (onto l []) v
-  unfolding move closeMove without numberOf
-  stops-twice z x =
-      let f : take (suc P) t ++ z ≡ p ++ (code "\"" ∷ z) = rw (e, ← n, take-next p (code "\"") i) (append-assoc p (code "\"" ∷ []) z) in
-      let y = follows-went house house-limits (without 8 house) (roomy-without 8 (house-limits .roomy)) (wider 8 house) w (rw f at (text-follows x)) in
-      follows-twice (follows-behind (without 8 house) (roomy-without 8 (house-limits .roomy) .sane) (Took.no tt (Took.no tt (Took.yes tt (Took.ask (or-right (house (Gate.name (onto l []) (namesOf ms))) true tt))))) y) h
-
-  stops-closes : Verdict house t (Outcome.refused 8 P) → Closes t q (onto l []) P
-  stops-closes v = by (name-opened q (onto l []) house i w h refl)
-    where
-      same : {k m n : ℕ} → Outcome.refused k m ≡ Outcome.refused k n → m ≡ n
-      same e = cc
-
-      by : Opened q (onto l []) house initial 0 (p ++ (code "\"" ∷ i)) → Closes t q (onto l []) P
-      by (Opened.opened w₁ e₁ h₁ x) = subst (Closes t q (onto l [])) (same (verdict-one (refused-at w₁ (e ∙ e₁) h₁ x) v)) (in-text x (next (behind (e ∙ e₁) w₁)))
-
-  stops-repeated : Verdict house t (Outcome.refused 8 P) → Repeated t P
-  stops-repeated v =
-      let (z, r, x) = refused-over v .1 in record { q = q; us = onto l []; w = z; v = r; viable = place-longest v .1; closes = stops-closes v; text = x; twice = stops-twice z x }
-
-shut-repeated : {t : Bytes} (p i : Bytes) {b P : ℕ} {s : State}
-    → t ≡ p ++ (b ∷ i) → length p ≡ P → Went house initial 0 p s P → Shut house s b → Verdict house t (Outcome.refused 8 P) → Repeated t P
-shut-repeated p i {b} e n w (Shut.shut {l = l} {ms = ms} c h) v =
-    stops-repeated p i (e ∙ ap (λ b. p ++ (b ∷ i)) (eqb→eq b (code "\"") c)) n w (shut-among (onto l []) (namesOf ms) h) v
-
-split-repeated : {t : Bytes} {P : ℕ} → Split house initial 0 t (Outcome.refused 8 P) → Verdict house t (Outcome.refused 8 P) → Repeated t P
-split-repeated (Split.off {s′ = s} p b i {m = m} w f e) v = shut-repeated p i refl (omega arith) w (shut-at s m b f) v
-
--- From the name to the refusal. Texts that begin alike have the same byte there.
-begins : (t w p : Bytes) (b : ℕ) (r : Bytes) (n : ℕ) → take (suc n) t ++ w ≡ p ++ (b ∷ r) → length p ≤ n → n < length t → (s : Bytes) × (t ≡ p ++ (b ∷ s))
-begins [] w p b r n e h l = absurd (omega arith)
-begins (c ∷ t) w [] b r n e h l = (t, cc)
-begins (c ∷ t) w (x ∷ p) b r zero e h l = absurd (omega arith)
-begins (c ∷ t) w (x ∷ p) b r (suc n) e h l =
-    let f : take (suc n) t ++ w ≡ p ++ (b ∷ r) = cc in
-    let z : c ≡ x = cc in
-    let (s, g) = begins t w p b r n f (omega arith) (omega arith) in
-    (s, cc)
-
--- What is viable under the house's ceilings the machine goes over in the same way where names are not judged.
-narrow : {s s′ : State} {n j : ℕ} {p : Bytes} (w : Bytes) {v : Node} → Went (without 8 house) s n p s′ j → Follows house s (from n (p ++ w)) v → Went house s n p s′ j
-narrow w Went.none h = Went.none
-narrow {s} w {v} (Went.step {s′ = s′} {n = n} {b = b} {p = p} k y) h = by (narrow w y) (judge house (move s n b))
+pub closing-quote : {t : Bytes} {P : ℕ} → Verdict house t (Outcome.refused 8 P) → getD t P 0 ≡ code "\""
+closing-quote {t} {P} v = by (refused-byte v (refused-over v .0))
   where
-    by : {s″ : State} {j : ℕ} → (Follows house s′ (from (suc n) (p ++ w)) v → Went house s′ (suc n) p s″ j) → Judged house (move s n b) → Went house s n (b ∷ p) s″ j
-    by f (Judged.took z l) =
-        let g : Took house (move s n b) s′ = subst (Took house (move s n b)) (took-one (took-still house 8 l) k) l in
-        Went.step g (f (follows-behind house (house-limits .roomy .sane) g h))
-    by f (Judged.fault z l) = absurd (follows-fault house (house-limits .roomy .sane) l h)
+    by : Blamed 8 (getD t P 0) → getD t P 0 ≡ code "\""
+    by (Blamed.name h) = eqb→eq (getD t P 0) (code "\"") h
+
+-- From the refusal to the name.
+module _ {t : Bytes} {P : ℕ} (v : Verdict house t (Outcome.refused 8 P)) where
+  -- The quote closes a name whose units are `l`, last first, and which stood before.
+  module _ {q a j : ℕ} {l : Units} {ms : Members} {st : Stack} (w : Over (take P t) (State.chars (Use.name q a ms st) l) j) (h : T (among (onto l []) (namesOf ms))) where
+    stops-twice : (z : Bytes) {r : Node} → Text (without 8 house) (take (suc P) t ++ z) r → Twice q (onto l []) r
+    unfolding move closeMove without numberOf
+    stops-twice z x =
+        let f : take (suc P) t ++ z ≡ take P t ++ (code "\"" ∷ z) = rw (take-suc t P 0 (refused-over v .0), closing-quote v) (append-assoc (take P t) (code "\"" ∷ []) z) in
+        let y = follows-went house house-limits (without 8 house) (roomy-without 8 (house-limits .roomy)) (wider 8 house) w (rw f at (text-follows x)) in
+        follows-twice (follows-behind (without 8 house) (roomy-without 8 (house-limits .roomy) .sane) (Took.no tt (Took.no tt (Took.yes tt (Took.ask (or-right (house (Gate.name (onto l []) (namesOf ms))) true tt))))) y) h
+
+    stops-closes : Closes t q (onto l []) P
+    stops-closes = by (name-opened q (onto l []) house (drop (suc P) t) w h refl)
+      where
+        whole : t ≡ take P t ++ (code "\"" ∷ drop (suc P) t)
+        whole = parts-at P t (refused-over v .0) ∙ ap (λ b. take P t ++ (b ∷ drop (suc P) t)) (closing-quote v)
+
+        by : Opened q (onto l []) house initial 0 (take P t ++ (code "\"" ∷ drop (suc P) t)) → Closes t q (onto l []) P
+        by (Opened.opened w₁ e h₁ x) =
+            subst (Closes t q (onto l [])) (longest-one (Viable house) t (place-longest (refused-at w₁ (whole ∙ e) h₁ x)) (place-longest v)) (in-text x (at-next t (behind (whole ∙ e) w₁)))
+
+    stops-repeated : Repeated t P
+    stops-repeated = let (z, r, x) = refused-over v .1 in record { q = q; us = onto l []; w = z; v = r; viable = place-longest v .1; closes = stops-closes; text = x; twice = stops-twice z x }
+
+  verdict-repeated : Repeated t P
+  verdict-repeated = by (refused-inside v (refused-over v .0))
+    where
+      at-s : {s : State} {j b : ℕ} → Over (take P t) s j → Refuses house s b 8 → Repeated t P
+      at-s w (Refuses.name {l = l} {ms = ms} _ g) = stops-repeated w (shut-among (onto l []) (namesOf ms) g)
+
+      by : {b : ℕ} → Refused (take P t) b 8 → Repeated t P
+      by {b} (Refused.refused {s = s} {j = j} w f) = at-s w (move-refuses s j b f)
+
+-- From the name to the refusal. A text goes on as its first bytes do, whatever else follows them.
+begins : (t w p : Bytes) (b : ℕ) (r : Bytes) (n : ℕ) → take (suc n) t ++ w ≡ p ++ (b ∷ r) → length p ≤ n → n < length t → t ≡ p ++ (b ∷ drop (suc (length p)) t)
+begins t w p b r n e h l =
+    let k = suc (length p) in
+    let f : take k t ≡ p ++ (b ∷ []) = sym (take-take k (suc n) t (omega arith)) ∙ sym (take-append-le k (take (suc n) t) w (omega (arith, length-take-le (suc n) t (omega arith)))) ∙ ap (take k) e ∙ take-next p b r in
+    sym (take-append-drop k t) ∙ ap (λ u. u ++ drop k t) f ∙ append-assoc p (b ∷ []) (drop k t)
+
+-- Where the house's ceilings let the machine go on, it goes on in the same way as where names are not judged.
+narrow : {s s₁ s₂ : State} {n i j : ℕ} {p : Bytes} → Went house s n p s₁ i → Went (without 8 house) s n p s₂ j → Went house s n p s₂ j
+narrow Went.none Went.none = Went.none
+narrow (Went.step k w) (Went.step {s″ = z} {n = n} {j = j} {p = p} l y) =
+    Went.step k (narrow w (subst (λ s. Went (without 8 house) s (suc n) p z j) (took-one l (took-wide (wider 8 house) k)) y))
 
 -- A string stands inside its text.
 closes-inside : (t : Bytes) {q P : ℕ} {us : Units} → Closes t q us P → (q < P) × (P < length t)
@@ -144,42 +141,37 @@ closes-inside t {q} {P} x = omega (arith, chars-take x, length-drop (suc q) t, l
 
 -- The machine comes to the opening quote, where the name stood before.
 data Begun (t : Bytes) (q : ℕ) (us : Units) : Type 0 where
-  begun : {a : ℕ} {p : Bytes} (r : Bytes) {ms : Members} {st : Stack} → Went house initial 0 p (State.member a ms st) q → t ≡ p ++ (code "\"" ∷ r) → T (among us (namesOf ms)) → Begun t q us
+  begun : {a : ℕ} {p : Bytes} (r : Bytes) {ms : Members} {st : Stack} → Over p (State.member a ms st) q → t ≡ p ++ (code "\"" ∷ r) → T (among us (namesOf ms)) → Begun t q us
 
-repeated-begun : {t : Bytes} {P : ℕ} (c : Repeated t P) → Begun t (c .q) (c .us)
-repeated-begun {t} {P} c = by (twice-opened (c .q) (c .us) (without 8 house) (verdict-run (limits-without 8 (λ e. omega arith) house-limits) (Verdict.text (c .text))) (c .twice))
-  where
-    by : Opened (c .q) (c .us) (without 8 house) initial 0 (take (suc P) t ++ c .w) → Begun t (c .q) (c .us)
-    by (Opened.opened {p = p} {r = r} y e h _) =
-        let (l, m) = closes-inside t (c .closes) in
-        let n : c .q ≡ 0 + length p = went-length y in
-        let (s, f) = begins t (c .w) p (code "\"") r P e (omega arith) m in
-        let (z, g) = take-past P p (code "\"") s (omega arith) in
-        let (w, v, x) = viable-cut house p (code "\"" ∷ []) (viable-cut house (p ++ (code "\"" ∷ [])) z (rw (f, g) at (c .viable))) in
-        Begun.begun s (narrow w y (text-follows x)) f h
+module _ {t : Bytes} {P : ℕ} (c : Repeated t P) where
+  repeated-begun : Begun t (c .q) (c .us)
+  repeated-begun = by (twice-opened (c .q) (c .us) (without 8 house) (verdict-run (limits-without 8 (λ e. omega arith) house-limits) (Verdict.text (c .text))) (c .twice))
+    where
+      by : Opened (c .q) (c .us) (without 8 house) initial 0 (take (suc P) t ++ c .w) → Begun t (c .q) (c .us)
+      by (Opened.opened {p = p} {r = r} y e h _) =
+          let (l, m) = closes-inside t (c .closes) in
+          let n : c .q ≡ 0 + length p = went-length y in
+          let f = begins t (c .w) p (code "\"") r P e (omega arith) m in
+          let (z, g) = take-past P p (code "\"") (drop (suc (length p)) t) (omega arith) in
+          let (_, _, w) = over p (viable-cut house p (code "\"" ∷ []) (viable-cut house (p ++ (code "\"" ∷ [])) z (subst (Viable house) (ap (take P) f ∙ g) (c .viable)))) in
+          Begun.begun _ (narrow w y) f h
 
-repeated-verdict : {t : Bytes} {P : ℕ} → Repeated t P → Verdict house t (Outcome.refused 8 P)
-repeated-verdict {t} {P} c = by (repeated-begun c)
-  where
-    by : Begun t (c .q) (c .us) → Verdict house t (Outcome.refused 8 P)
-    by (Begun.begun _ w e h) = refused-at w e h (rw (← at-is (next (behind e w))) at (c .closes))
+  repeated-verdict : Verdict house t (Outcome.refused 8 P)
+  repeated-verdict = by repeated-begun
+    where
+      by : Begun t (c .q) (c .us) → Verdict house t (Outcome.refused 8 P)
+      by (Begun.begun _ w e h) = refused-at w e h (rw (← at-drop (at-next t (behind e w))) at (c .closes))
+
+  -- A quote stands where the name opens, too.
+  pub opening-quote : getD t (c .q) 0 ≡ code "\""
+  opening-quote = by repeated-begun
+    where
+      by : Begun t (c .q) (c .us) → getD t (c .q) 0 ≡ code "\""
+      by (Begun.begun _ w e h) = at-byte t (behind e w)
 
 -- A repeated name is refused at its closing quote, and nothing else is refused as 8.
 pub names-twice : (t : Bytes) (P : ℕ) → Verdict house t (Outcome.refused 8 P) ↔ Repeated t P
-names-twice t P = (λ v. split-repeated (split (verdict-run house-limits v)) v, repeated-verdict)
-
--- Both quotes are there.
-pub opening-quote : {t : Bytes} {P : ℕ} (c : Repeated t P) → getD t (c .q) 0 ≡ code "\""
-opening-quote {t} c = by (repeated-begun c)
-  where
-    by : Begun t (c .q) (c .us) → getD t (c .q) 0 ≡ code "\""
-    by (Begun.begun {p = p} r w e h) = ap (λ t. getD t (c .q) 0) e ∙ getD-at p (code "\"") r 0 (c .q) (omega (arith, went-length w))
-
-pub closing-quote : {t : Bytes} {P : ℕ} → Verdict house t (Outcome.refused 8 P) → getD t P 0 ≡ code "\""
-closing-quote {t} {P} v = by (refused-byte v (refused-over v .0))
-  where
-    by : Blamed 8 (getD t P 0) → getD t P 0 ≡ code "\""
-    by (Blamed.name h) = eqb→eq (getD t P 0) (code "\"") h
+names-twice t P = (verdict-repeated, repeated-verdict)
 
 -- So no text has a name twice in one object.
 pub names-once : {t : Bytes} {v : Node} {q : ℕ} {us : Units} → Text house t v → ¬ (Twice q us v)

@@ -5,26 +5,22 @@ use Prim.Native.Nat.{_*_, _+_, suc, ℕ}
 use Rattle.text.proofs.Machine.{Frame, Left, Move, Numeral, Stack, State, Use, afterMove, closeMove, hexState, memberMove, move, namesOf, numberMove, onto, otherMove, valueMove, wordState}
 use Rattle.text.proofs.Open.{Open, closed-array, closed-object, empty-array, empty-object}
 use Rattle.text.proofs.Residual.{HexRest}
-use Rattle.text.proofs.Run.{Done, Fault, Run, Took}
+use Rattle.text.proofs.Run.{Done, Run, Took}
 use Rattle.text.proofs.Step.{escape-of}
 use Rattle.text.proofs.Tests.{byte-at}
 use Rattle.text.proofs.Twice.{Twice, TwiceAll}
 use Rattle.text.proofs.Way.{Went, initial}
 use Rattle.text.specs.Bytes.{Bytes, Source, Units, escapeUnit, from, hexValue, isHex}
-use Rattle.text.specs.Ceilings.{Ceilings, Gate, among, numberOf}
+use Rattle.text.specs.Ceilings.{Ceilings, Gate, among}
 use Rattle.text.specs.Decimal.{Decimal, normal}
 use Rattle.text.specs.Node.{Literal, Members, Node, Nodes}
 use Rattle.text.specs.Strings.{Chars, Escape, Is}
 use Rattle.text.specs.Verdict.{Outcome}
 use lib.Dec.{T, eqb, eqb→eq}
-use mathlib.Core.Bool.{Bool, false, not}
+use mathlib.Core.Bool.{Bool, false}
 use mathlib.Core.List.{[], _++_, _∷_}
 use mathlib.Core.Logic.{_⊎_, inl, inr, ⊎-elim}
 use mathlib.Core.Path.{_≡_, ap, refl}
-
--- The byte `b` closes a name that the ceilings don't let pass.
-pub data Shut (C : Ceilings) : State → ℕ → Type 0 where
-  shut : {q a b : ℕ} {l : Units} {ms : Members} {st : Stack} → T (eqb b (code "\"")) → T (not (C (Gate.name (onto l []) (namesOf ms)))) → Shut C (State.chars (Use.name q a ms st) l) b
 
 -- From here on, where the name `us` with its opening quote at `q` may stand twice.
 module _ (q : ℕ) (us : Units) where
@@ -106,24 +102,18 @@ module _ (q : ℕ) (us : Units) where
     Holds (State.member a ms st) i = Open q us ms ⊎ Kept st
     Holds (State.named k n a ms st) i = Naming ms (Kept st) (n ≡ us) k
 
-    -- A move that asks at no name, and whatever the state that it leads to holds gives `K`.
+    -- Whatever the state that a move leads to holds gives `K`.
     data Keeps (i : Source) (K : Type 0) : Move → Type 0 where
       bad : Keeps i K Move.bad
       go : {s : State} → (Holds s i → K) → Keeps i K (Move.go s)
-      ask : {g : Gate} {s : State} → T (not (eqb (numberOf g) 8)) → (Holds s i → K) → Keeps i K (Move.ask g s)
+      ask : {g : Gate} {s : State} → (Holds s i → K) → Keeps i K (Move.ask g s)
       when : {c : Bool} {x y : Move} → Keeps i K x → Keeps i K y → Keeps i K (Move.when c x y)
 
     keeps-took : {i : Source} {K : Type 0} {m : Move} {s : State} → Keeps i K m → Took C m s → Holds s i → K
     keeps-took (Keeps.go f) Took.go = f
-    keeps-took (Keeps.ask _ f) (Took.ask _) = f
+    keeps-took (Keeps.ask f) (Took.ask _) = f
     keeps-took (Keeps.when h _) (Took.yes _ k) = keeps-took h k
     keeps-took (Keeps.when _ h) (Took.no _ k) = keeps-took h k
-
-    keeps-fault : {i : Source} {K : Type 0} {m : Move} {k : ℕ} → Keeps i K m → Fault C m k → T (not (eqb k 8))
-    keeps-fault Keeps.bad Fault.bad = tt
-    keeps-fault (Keeps.ask t _) (Fault.ask _) = t
-    keeps-fault (Keeps.when h _) (Fault.yes _ f) = keeps-fault h f
-    keeps-fault (Keeps.when _ h) (Fault.no _ f) = keeps-fault h f
 
     -- Such are the moves behind a value, where a value is due, in a number and in a new array.
     module _ (i : Source) {K : Type 0} where
@@ -134,24 +124,24 @@ module _ (q : ℕ) (us : Units) where
       keeps-after (Frame.object a ms k l ∷ st) v n b f = when (go f) (when (go λ x. f (more-members (inside closed-object x))) (when (go λ x. f (more-members x)) bad))
 
       keeps-value : (st : Stack) (n b : ℕ) → (Kept st → K) → Keeps i K (valueMove st n b)
-      unfolding valueMove otherMove Holds InUse numberOf
+      unfolding valueMove otherMove Holds InUse
       keeps-value st n b f =
-          when (go f) (when (go f) (when (go f) (when (go f) (when (go f) (when (go f) (when (go f) (when (go f) (when (ask tt f) (when (ask tt f) bad)))))))))
+          when (go f) (when (go f) (when (go f) (when (go f) (when (go f) (when (go f) (when (go f) (when (go f) (when (ask f) (when (ask f) bad)))))))))
 
       -- Behind a value that holds nothing.
       keeps-plain : (st : Stack) (v : Node) (n b : ℕ) → ¬ (Twice q us v) → (Kept st → K) → Keeps i K (afterMove st v n b)
       keeps-plain st v n b none f = keeps-after st v n b (⊎-elim f λ x. absurd (none x))
 
       keeps-number : (ns : Numeral) (p : ℕ) (st : Stack) (n b : ℕ) → (Kept st → K) → Keeps i K (numberMove ns p st n b)
-      unfolding numberMove Holds numberOf
+      unfolding numberMove Holds
       keeps-number Numeral.minus p st n b f = when (go f) (when (go f) bad)
-      keeps-number (Numeral.zero neg) p st n b f = when (ask tt f) (when (go f) (keeps-plain st (Node.number p n (normal neg 0 1 0 false 0)) n b not-number f))
-      keeps-number (Numeral.whole neg c m) p st n b f = when (ask tt f) (when (ask tt f) (when (go f) (keeps-plain st (Node.number p n (normal neg c m 0 false 0)) n b not-number f)))
+      keeps-number (Numeral.zero neg) p st n b f = when (ask f) (when (go f) (keeps-plain st (Node.number p n (normal neg 0 1 0 false 0)) n b not-number f))
+      keeps-number (Numeral.whole neg c m) p st n b f = when (ask f) (when (ask f) (when (go f) (keeps-plain st (Node.number p n (normal neg c m 0 false 0)) n b not-number f)))
       keeps-number (Numeral.point neg c m) p st n b f = when (go f) bad
-      keeps-number (Numeral.fraction neg c m d) p st n b f = when (ask tt f) (when (go f) (keeps-plain st (Node.number p n (normal neg c m d false 0)) n b not-number f))
+      keeps-number (Numeral.fraction neg c m d) p st n b f = when (ask f) (when (go f) (keeps-plain st (Node.number p n (normal neg c m d false 0)) n b not-number f))
       keeps-number (Numeral.mark neg c m d) p st n b f = when (go f) (when (go f) (when (go f) bad))
       keeps-number (Numeral.sign neg c m d s) p st n b f = when (go f) bad
-      keeps-number (Numeral.power neg c m d s e j) p st n b f = when (when (go f) (ask tt f)) (keeps-plain st (Node.number p n (normal neg c m d s e)) n b not-number f)
+      keeps-number (Numeral.power neg c m d s e j) p st n b f = when (when (go f) (ask f)) (keeps-plain st (Node.number p n (normal neg c m d s e)) n b not-number f)
 
       keeps-array : (a : ℕ) (st : Stack) (n b : ℕ) → (Kept st → K) → Keeps i K (move (State.array a st) n b)
       unfolding move Holds Kept
@@ -244,29 +234,3 @@ module _ (q : ℕ) (us : Units) where
         → Went C initial 0 p (State.chars (Use.name q a ms st) l) j → T (among us (namesOf ms)) → onto l [] ≡ us → Opened initial 0 (p ++ (code "\"" ∷ i))
     unfolding Holds InUse
     name-opened {j = j} i w t e = at-start (back-went (code "\"" ∷ i) w (Naming.name t (j, i, [], Chars.close, e)))
-
-    -- No other byte asks at a name.
-    free : {s : State} → Keeps (from 0 []) (Unit {0}) (Move.go s)
-    free = go (λ _. tt)
-
-    refused-name : (s : State) (n b : ℕ) → Fault C (move s n b) 8 → Shut C s b
-    unfolding move memberMove closeMove numberOf
-    refused-name (State.number ns p st) n b f = absurd (keeps-fault (keeps-number (from 0 []) ns p st n b λ y. y) f)
-    refused-name (State.value st) n b f = absurd (keeps-fault (keeps-value (from 0 []) st n b λ y. y) f)
-    refused-name (State.array a st) n b f = absurd (keeps-fault (keeps-array (from 0 []) a st n b λ y. y) f)
-    refused-name (State.object a st) n b f = absurd (keeps-fault (when free (when free (when free (when free bad)))) f)
-    refused-name (State.after st v) n b f = absurd (keeps-fault (keeps-after (from 0 []) st v n b λ y. y) f)
-    refused-name (State.literal c ks v a st) n b f = absurd (keeps-fault (when free bad) f)
-    refused-name (State.chars u l) n b (Fault.no _ (Fault.no _ (Fault.yes p f))) = by u f
-      where
-        by : (u : Use) → Fault C (closeMove u (onto l []) n) 8 → Shut C (State.chars u l) b
-        by (Use.name k a ms st) (Fault.ask t) = Shut.shut p t
-    refused-name (State.chars u l) n b (Fault.no _ (Fault.no _ (Fault.no _ f))) = absurd (keeps-fault (when free bad) f)
-    refused-name (State.escape u l) n b f = absurd (keeps-fault (when free (when free bad)) f)
-    refused-name (State.hex h a u l) n b f = absurd (keeps-fault (when free bad) f)
-    refused-name (State.member a ms st) n b f = absurd (keeps-fault (when free (when free bad)) f)
-    refused-name (State.named k l a ms st) n b f = absurd (keeps-fault (when free (when free bad)) f)
-
--- (Whatever is looked for, since only the gates count.)
-pub shut-at : {C : Ceilings} (s : State) (n b : ℕ) → Fault C (move s n b) 8 → Shut C s b
-shut-at {C} s n b f = refused-name 0 [] C s n b f

@@ -1,25 +1,23 @@
--- A string's characters, as the machine goes over them to the closing quote, and what stands behind it in a text.
+-- A string's characters, as the machine goes over them to the closing quote, and as the text has them.
 use Prim.Native.Nat.{suc, zero, ℕ}
 use Rattle.text.proofs.Machine.{State, Use, closeMove, hexState, move, onto}
 use Rattle.text.proofs.Run.{Fault, Run, Took}
+use Rattle.text.proofs.Sources.{At, at-drop, chars-at}
 use Rattle.text.proofs.Step.{from-zero, high≢plain}
 use Rattle.text.specs.Bytes.{Bytes, Source, Units, from}
 use Rattle.text.specs.Ceilings.{Ceilings}
 use Rattle.text.specs.Strings.{Chars, Escape, Is}
 use Rattle.text.specs.Verdict.{Outcome}
 use lib.ListN.{drop}
-use lib.Seq.{drop-drop}
 use mathlib.Core.List.{_∷_}
-use mathlib.Core.Path.{_∙_, _≡_, ap}
-use native.Mathlib.Numerals.{add-one}
 
 -- The offset of the last byte before a source.
-abbrev pub last : Source → ℕ
+abbrev last : Source → ℕ
 last (from zero i) = 0
 last (from (suc p) i) = p
 
 -- From a source on, the machine is refused with the number `k` at the last byte before another.
-abbrev pub Stops : Ceilings → State → Source → ℕ → Source → Type 0
+abbrev Stops : Ceilings → State → Source → ℕ → Source → Type 0
 Stops C s (from n i) k o = Run C s n i (Outcome.refused k (last o))
 
 module _ {C : Ceilings} where
@@ -42,28 +40,6 @@ module _ {C : Ceilings} where
         Run.on (Took.no tt (Took.yes tt Took.go))
         (Run.on (Took.yes s₁ Took.go) (Run.on (Took.yes s₂ Took.go) (Run.on (Took.yes s₃ Took.go) (Run.on (Took.yes s₄ Took.go) (unit-is (from-zero a b c d e) (chars-stop u (y ∷ l) x f))))))
 
--- A source that stands in the text `t`.
-pub data At (t : Bytes) : Source → Type 0 where
-  at : {n : ℕ} {i : Bytes} → i ≡ drop n t → At t (from n i)
-
-module _ {t : Bytes} where
-  pub next : {n b : ℕ} {i : Bytes} → At t (from n (b ∷ i)) → At t (from (suc n) i)
-  next (At.at {n = n} e) = At.at (ap (drop 1) e ∙ drop-drop 1 n t ∙ ap (λ n. drop n t) (add-one n))
-
-  mutual
-    chars-at : {C : Ceilings} {i o : Source} {us : Units} → Chars C i o us → At t i → At t o
-    chars-at Chars.close e = next e
-    chars-at (Chars.plain _ x) e = chars-at x (next e)
-    chars-at (Chars.high _ _ x) e = chars-at x (next e)
-    chars-at (Chars.escape x) e = escape-at x (next e)
-
-    escape-at : {C : Ceilings} {i o : Source} {us : Units} → Escape C i o us → At t i → At t o
-    escape-at (Escape.short _ _ x) e = chars-at x (next e)
-    escape-at (Escape.unit _ _ _ _ _ x) e = chars-at x (next (next (next (next (next e)))))
-
-  pub at-is : {n : ℕ} {i : Bytes} → At t (from n i) → i ≡ drop n t
-  at-is (At.at e) = e
-
-  -- So a string is one of the text.
-  pub in-text : {C : Ceilings} {n m : ℕ} {i o : Bytes} {us : Units} → Chars C (from n i) (from m o) us → At t (from n i) → Chars C (from n (drop n t)) (from m (drop m t)) us
-  in-text x a = rw (at-is a, at-is (chars-at x a)) at x
+-- A string that begins inside a text is one of it.
+pub in-text : {t : Bytes} {C : Ceilings} {n m : ℕ} {i o : Bytes} {us : Units} → Chars C (from n i) (from m o) us → At t (from n i) → Chars C (from n (drop n t)) (from m (drop m t)) us
+in-text {t} x a = rw (at-drop a, at-drop (chars-at t x a)) at x

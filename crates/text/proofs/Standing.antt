@@ -6,7 +6,7 @@ use Rattle.text.proofs.Endings.{Ending, andOne, andSign, bare, ending, 
 use Rattle.text.proofs.Machine.{Frame, Left, Numeral, Stack, State, Use, afterMove, closeMove, hexState, memberMove, move, numberMove, onto, otherMove, valueMove, wordState}
 use Rattle.text.proofs.Place.{Over}
 use Rattle.text.proofs.Run.{Took}
-use Rattle.text.proofs.Tests.{and-left, and-right, byte-at, le-both, space-at}
+use Rattle.text.proofs.Tests.{and-left, and-right, byte-at, le-both, nonzero-most, space-at}
 use Rattle.text.proofs.Way.{Went}
 use Rattle.text.specs.Bytes.{Bytes, Units, hexValue, isDigit, isE, isNonzero, isSpace}
 use Rattle.text.specs.Ceilings.{Ceilings}
@@ -63,7 +63,7 @@ nonzero-digit : (b : ℕ) → T (isNonzero b) → T (isDigit b)
 nonzero-digit b t =
     le-both (code "0") b b (code "9")
     (omega (arith, leb→le (code "1") b (and-left (leb (code "1") b) (leb b (code "9")) t)))
-    (leb→le b (code "9") (and-right (leb (code "1") b) (leb b (code "9")) t))
+    (nonzero-most b t)
 
 word-stands : {x : Ending} (ks : Bytes) (v : Literal) (a : ℕ) (st : Stack) (n : ℕ) → T (lower ks) → T (bare x) → Stands (wordState ks v a st n) x
 unfolding wordState

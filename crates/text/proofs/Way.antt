@@ -20,7 +20,7 @@ pub text-follows : {C : Ceilings} {t : Bytes} {v : Node} → Text C t v → Foll
 unfolding depthOf
 text-follows (Text.text x e) = Follows.value x (After.top e)
 
-pub follows-text : {C : Ceilings} {t : Bytes} {v : Node} → Follows C (State.value []) (from 0 t) v → Text C t v
+follows-text : {C : Ceilings} {t : Bytes} {v : Node} → Follows C (State.value []) (from 0 t) v → Text C t v
 unfolding depthOf
 follows-text (Follows.value x (After.top e)) = Text.text x e
 
@@ -41,6 +41,13 @@ pub went-split : {B : Ceilings} {s s′ : State} {n j : ℕ} (p : Bytes) {r : By
 went-split {s = s} {n = n} [] w = (s, n, Went.none, w)
 went-split (b ∷ p) (Went.step k w) = let (t, i, v, u) = went-split p w in (t, i, Went.step k v, u)
 
+-- What passes does so under looser ceilings.
+pub took-wide : {B C : Ceilings} → ((g : Gate) → T (B g) → T (C g)) → {m : Move} {s : State} → Took B m s → Took C m s
+took-wide sub Took.go = Took.go
+took-wide sub (Took.ask {g = g} t) = Took.ask (sub g t)
+took-wide sub (Took.yes p k) = Took.yes p (took-wide sub k)
+took-wide sub (Took.no p k) = Took.no p (took-wide sub k)
+
 module _ (B : Ceilings) (limits : Limits B) where
   pub fit-start : Fitting B initial
   unfolding isNumber
@@ -56,20 +63,14 @@ module _ (B : Ceilings) (limits : Limits B) where
 
   -- What follows under looser ceilings `C`, behind the way and before it.
   module _ (C : Ceilings) (roomy : Roomy C) (sub : (g : Gate) → T (B g) → T (C g)) where
-    took-wide : {m : Move} {s : State} → Took B m s → Took C m s
-    took-wide Took.go = Took.go
-    took-wide (Took.ask {g = g} t) = Took.ask (sub g t)
-    took-wide (Took.yes p k) = Took.yes p (took-wide k)
-    took-wide (Took.no p k) = Took.no p (took-wide k)
-
     went-follows : {s s′ : State} {n j : ℕ} {p w : Bytes} {r : Node} → Fitting B s → Went B s n p s′ j → Follows C s′ (from j w) r → Follows C s (from n (p ++ w)) r
     went-follows φ Went.none h = h
     went-follows {s} φ (Went.step {n = n} {b = b} k q) h =
-        follows-before C (fit-wide C roomy B limits sub φ) (took-wide k) (went-follows (fit-on s n b φ k) q h)
+        follows-before C (fit-wide C roomy B limits sub φ) (took-wide sub k) (went-follows (fit-on s n b φ k) q h)
 
     pub follows-went : {s s′ : State} {n j : ℕ} {p w : Bytes} {r : Node} → Went B s n p s′ j → Follows C s (from n (p ++ w)) r → Follows C s′ (from j w) r
     follows-went Went.none h = h
-    follows-went (Went.step k q) h = follows-went q (follows-behind C (roomy .sane) (took-wide k) h)
+    follows-went (Went.step k q) h = follows-went q (follows-behind C (roomy .sane) (took-wide sub k) h)
 
     -- A byte that the ceilings refuse there ends all hope, ...
     pub not-viable : {s : State} {p : Bytes} {j : ℕ} (b : ℕ) {k : ℕ} → Went B initial 0 p s j → Fault C (move s j b) k → ¬ (Viable C (p ++ (b ∷ [])))

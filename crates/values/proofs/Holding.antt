@@ -12,6 +12,7 @@ use Rattle.meaning.specs.Canonical.{spelling}
 use Rattle.meaning.specs.Meaning.{Tree}
 use Rattle.text.proofs.Offsets.{Inside, InsideAll, InsideMembers, end, head-words, inside-span, start, text-inside, text-size}
 use Rattle.text.proofs.Records.{records-length, size-some, table-length}
+use Rattle.text.proofs.Sources.{At, at-byte, at-drop, at-inside, at-next, chars-at, number-at, value-at}
 use Rattle.text.proofs.Takes.{chars-take, place, value-takes}
 use Rattle.text.specs.Bytes.{Bytes, Source, Units, from}
 use Rattle.text.specs.Ceilings.{house}
@@ -22,7 +23,6 @@ use Rattle.text.specs.Node.{Literal, Members, Node, Nodes}
 use Rattle.text.specs.Numbers.{Number}
 use Rattle.text.specs.Strings.{Chars, Word}
 use Rattle.text.specs.Table.{Words, records, recordsAll, recordsMembers, size, sizeAll, sizeMembers, table, unnamed}
-use Rattle.values.proofs.Sources.{At, at-byte, at-drop, at-inside, at-next, chars-at, number-at, value-at}
 use Rattle.values.proofs.Stretches.{Has, has-front, has-left, has-right}
 use Rattle.values.specs.Children.{Child, elements, members}
 use Rattle.values.specs.Held.{Held, HeldAll, Holds, Recorded, Spelt, Unlinked}

@@ -1,4 +1,3 @@
-pub mod Sources
 pub mod Stretches
 pub mod Holding
 pub mod Records
