@@ -45,6 +45,13 @@ module _ {C : Ceilings} where
   after_refuses [] v n b (Fault.no _ Fault.bad) = Refuses.wrong
   after_refuses (Frame.array a vs ∷ st) v n b (Fault.no _ (Fault.no _ (Fault.no _ Fault.bad))) = Refuses.wrong
   after_refuses (Frame.object a ms q us ∷ st) v n b (Fault.no _ (Fault.no _ (Fault.no _ Fault.bad))) = Refuses.wrong
+  after_refuses [] v n b (Fault.yes _ x13) = elim x13 [ ]
+  after_refuses (Frame.array a vs ∷ st) v n b (Fault.yes _ x16) = elim x16 [ ]
+  after_refuses (Frame.array a vs ∷ st) v n b (Fault.no _ (Fault.yes _ x29)) = elim x29 [ ]
+  after_refuses (Frame.array a vs ∷ st) v n b (Fault.no _ (Fault.no _ (Fault.yes _ x42))) = elim x42 [ ]
+  after_refuses (Frame.object a ms q us ∷ st) v n b (Fault.yes _ x17) = elim x17 [ ]
+  after_refuses (Frame.object a ms q us ∷ st) v n b (Fault.no _ (Fault.yes _ x30)) = elim x30 [ ]
+  after_refuses (Frame.object a ms q us ∷ st) v n b (Fault.no _ (Fault.no _ (Fault.yes _ x43))) = elim x43 [ ]
 
   value_refuses : {s : State} (st : Stack) (n b : ℕ) {k : ℕ} → Fault C (value_move st n b) k → Refuses C s b k
   unfolding value_move other_move number_of
@@ -53,6 +60,14 @@ module _ {C : Ceilings} where
   value_refuses st n b (Fault.no _ (Fault.no _ (Fault.no _ (Fault.no _ (Fault.no _ (Fault.no _ (Fault.no _ (Fault.no _ (Fault.no _ (Fault.yes p (Fault.ask _))))))))))) =
       Refuses.depth (or_right (eqb b (code "[")) (eqb b (code "{")) p)
   value_refuses st n b (Fault.no _ (Fault.no _ (Fault.no _ (Fault.no _ (Fault.no _ (Fault.no _ (Fault.no _ (Fault.no _ (Fault.no _ (Fault.no _ Fault.bad)))))))))) = Refuses.wrong
+  value_refuses st n b (Fault.yes _ x12) = elim x12 [ ]
+  value_refuses st n b (Fault.no _ (Fault.yes _ x25)) = elim x25 [ ]
+  value_refuses st n b (Fault.no _ (Fault.no _ (Fault.yes _ x38))) = elim x38 [ ]
+  value_refuses st n b (Fault.no _ (Fault.no _ (Fault.no _ (Fault.yes _ x51)))) = elim x51 [ ]
+  value_refuses st n b (Fault.no _ (Fault.no _ (Fault.no _ (Fault.no _ (Fault.yes _ x64))))) = elim x64 [ ]
+  value_refuses st n b (Fault.no _ (Fault.no _ (Fault.no _ (Fault.no _ (Fault.no _ (Fault.yes _ x77)))))) = elim x77 [ ]
+  value_refuses st n b (Fault.no _ (Fault.no _ (Fault.no _ (Fault.no _ (Fault.no _ (Fault.no _ (Fault.yes _ x90))))))) = elim x90 [ ]
+  value_refuses st n b (Fault.no _ (Fault.no _ (Fault.no _ (Fault.no _ (Fault.no _ (Fault.no _ (Fault.no _ (Fault.yes _ x103)))))))) = elim x103 [ ]
 
   number_refuses : (ns : Numeral) (p : ℕ) (st : Stack) (n b : ℕ) {k : ℕ} → Fault C (number_move ns p st n b) k → Refuses C (State.number ns p st) b k
   unfolding number_move number_of
@@ -69,14 +84,28 @@ module _ {C : Ceilings} where
   number_refuses (Numeral.sign neg c m f s) p st n b (Fault.no _ Fault.bad) = Refuses.wrong
   number_refuses (Numeral.power neg c m f s e j) p st n b (Fault.yes t (Fault.no q (Fault.ask g))) = Refuses.power t q g
   number_refuses (Numeral.power neg c m f s e j) p st n b (Fault.no _ x) = after_refuses st (Node.number p n (normal neg c m f s e)) n b x
+  number_refuses Numeral.minus p st n b (Fault.yes t x12) = elim x12 [ ]
+  number_refuses Numeral.minus p st n b (Fault.no _ (Fault.yes t x25)) = elim x25 [ ]
+  number_refuses (Numeral.zero neg) p st n b (Fault.no _ (Fault.yes t x25)) = elim x25 [ ]
+  number_refuses (Numeral.whole neg c m) p st n b (Fault.no _ (Fault.no _ (Fault.yes _ x39))) = elim x39 [ ]
+  number_refuses (Numeral.point neg c m) p st n b (Fault.yes t x15) = elim x15 [ ]
+  number_refuses (Numeral.fraction neg c m f) p st n b (Fault.no _ (Fault.yes t x28)) = elim x28 [ ]
+  number_refuses (Numeral.mark neg c m f) p st n b (Fault.yes t x17) = elim x17 [ ]
+  number_refuses (Numeral.mark neg c m f) p st n b (Fault.no _ (Fault.yes t x30)) = elim x30 [ ]
+  number_refuses (Numeral.mark neg c m f) p st n b (Fault.no _ (Fault.no _ (Fault.yes _ x44))) = elim x44 [ ]
+  number_refuses (Numeral.sign neg c m f s) p st n b (Fault.yes t x18) = elim x18 [ ]
+  number_refuses (Numeral.power neg c m f s e j) p st n b (Fault.yes t (Fault.yes _ x27)) = elim x27 [ ]
 
   close_refuses : (u : Use) (l : Units) (n : ℕ) {b k : ℕ} → T (eqb b (code "\"")) → Fault C (close_move u (onto l []) n) k → Refuses C (State.chars u l) b k
   unfolding close_move number_of
   close_refuses (Use.name q a ms st) l n t (Fault.ask g) = Refuses.name t g
+  close_refuses (Use.value _ _) l n t x4 = elim x4 [ ]
 
   member_refuses : {s : State} (a : ℕ) (ms : Members) (st : Stack) (n b : ℕ) {k : ℕ} → Fault C (member_move a ms st n b) k → Refuses C s b k
   unfolding member_move
   member_refuses a ms st n b (Fault.no _ (Fault.no _ Fault.bad)) = Refuses.wrong
+  member_refuses a ms st n b (Fault.yes _ x12) = elim x12 [ ]
+  member_refuses a ms st n b (Fault.no _ (Fault.yes _ x25)) = elim x25 [ ]
 
   pub move_refuses : (s : State) (n b : ℕ) {k : ℕ} → Fault C (move s n b) k → Refuses C s b k
   unfolding move number_of
@@ -93,6 +122,18 @@ module _ {C : Ceilings} where
   move_refuses (State.hex l a u us) n b (Fault.no _ Fault.bad) = Refuses.wrong
   move_refuses (State.member a ms st) n b f = member_refuses a ms st n b f
   move_refuses (State.named q us a ms st) n b (Fault.no _ (Fault.no _ Fault.bad)) = Refuses.wrong
+  move_refuses (Rattle.text.proofs.Machine.array a st) n b (Fault.yes _ x12) = elim x12 [ ]
+  move_refuses (Rattle.text.proofs.Machine.array a st) n b (Fault.no _ (Fault.yes p x24)) = elim x24 [ ]
+  move_refuses (Rattle.text.proofs.Machine.object a st) n b (Fault.yes _ x13) = elim x13 [ ]
+  move_refuses (Rattle.text.proofs.Machine.object a st) n b (Fault.no _ (Fault.yes p x25)) = elim x25 [ ]
+  move_refuses (State.literal k ks v a st) n b (Fault.yes _ x14) = elim x14 [ ]
+  move_refuses (State.chars u us) n b (Fault.yes _ x15) = elim x15 [ ]
+  move_refuses (State.chars u us) n b (Fault.no _ (Fault.no _ (Fault.no _ (Fault.yes _ x52)))) = elim x52 [ ]
+  move_refuses (State.escape u us) n b (Fault.yes _ x16) = elim x16 [ ]
+  move_refuses (State.escape u us) n b (Fault.no _ (Fault.yes p x28)) = elim x28 [ ]
+  move_refuses (State.hex l a u us) n b (Fault.yes _ x17) = elim x17 [ ]
+  move_refuses (State.named q us a ms st) n b (Fault.yes _ x18) = elim x18 [ ]
+  move_refuses (State.named q us a ms st) n b (Fault.no _ (Fault.yes p x30)) = elim x30 [ ]
 
 -- The state left out, the byte may be blamed.
 blamed : {C : Ceilings} {s : State} {b k : ℕ} → Refuses C s b k → Blamed k b

@@ -112,13 +112,13 @@ ends_next {x} {p} b h = by (is_digit b) (is_e b) (is_sign b) (λ t. t) (λ t. t)
     by false false true f g k = ends_sign x b (k tt) h
     by false false false f g k = Ends.none
 
-ends_from : {x : Ending} {q : Bytes} (p : Bytes) → Ends x q → Ends (ending_from x p) (q ++ p)
+ends_from : (x : Ending) (q p : Bytes) → Ends x q → Ends (ending_from x p) (q ++ p)
 unfolding ending_from
-ends_from {x} {q} [] h = subst⁻¹ (Ends x) (append-nil q) h
-ends_from {x} {q} (b ∷ p) h = subst (Ends (ending_from (next x b) p)) (append_assoc q (b ∷ []) p) (ends_from p (ends_next b h))
+ends_from x q [] h = subst⁻¹ (Ends x) (append-nil q) h
+ends_from x q (b ∷ p) h = subst (Ends (ending_from (next x b) p)) (append_assoc q (b ∷ []) p) (ends_from (next x b) (q ++ (b ∷ [])) p (ends_next b h))
 
 pub ends : (p : Bytes) → Ends (ending p) p
-ends p = ends_from p (Ends.none {p = []})
+ends p = ends_from (Ending.digits 0) [] p (Ends.none {p = []})
 
 -- The digits of an ending.
 unfoldable pub count : Ending → ℕ

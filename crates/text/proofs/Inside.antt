@@ -107,6 +107,15 @@ third_behind : {q s : Bytes} {s₀ : State} {j d : ℕ} {x : Decimal} → Over q
 unfolding value_from
 third_behind {d = d} v (Reached.reached w (Ahead.rest (NumeralRest.power (Digits.more t Digits.none) l)) (Stands.power {neg = neg} {s = s} {c = c} {n = n} {f = f} {e = e})) =
     Third.third (went_join v w) t (normal_sign neg c n f s (and_digit e d))
+third_behind v (reached w (value _) x14) = elim x14 [ ]
+third_behind v (reached w (array _) x15) = elim x15 [ ]
+third_behind v (reached w (rest (NumeralRest.minus _ _)) x35) = elim x35 [ ]
+third_behind v (reached w (rest (NumeralRest.zero _)) x31) = elim x31 [ ]
+third_behind v (reached w (rest (NumeralRest.whole _ _)) x37) = elim x37 [ ]
+third_behind v (reached w (rest (NumeralRest.point _ _ _)) x55) = elim x55 [ ]
+third_behind v (reached w (rest (NumeralRest.fraction _ _)) x39) = elim x39 [ ]
+third_behind v (reached w (rest (NumeralRest.mark _ _ _ _)) x47) = elim x47 [ ]
+third_behind v (reached w (rest (NumeralRest.sign _ _ _)) x53) = elim x53 [ ]
 
 -- Two digits of an exponent stand last.
 two : (y : Ending) → and_one y ≡ Ending.power 3 → y ≡ Ending.power 2

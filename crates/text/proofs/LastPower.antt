@@ -44,6 +44,13 @@ power_refused {p} {j = j} w (Fitting.number (Fits.power _ _ _ _ a)) (Refuses.pow
     two_or_three (suc (suc (suc zero))) l m h = inr h
     two_or_three (suc (suc (suc (suc k)))) l m h = absurd (omega arith)
 power_refused w (Fitting.other q) (Refuses.power t o g) = absurd q
+power_refused w (Fitting.number Fits.minus) x8 = elim x8 [ ]
+power_refused w (Fitting.number (Fits.zero _)) x11 = elim x11 [ ]
+power_refused w (Fitting.number (Fits.whole _ _)) x14 = elim x14 [ ]
+power_refused w (Fitting.number (Fits.point _ _)) x15 = elim x15 [ ]
+power_refused w (Fitting.number (Fits.fraction _ _ _)) x18 = elim x18 [ ]
+power_refused w (Fitting.number (Fits.mark _ _ _)) x19 = elim x19 [ ]
+power_refused w (Fitting.number (Fits.sign _ _ _)) x20 = elim x20 [ ]
 
 -- Only a third or a fourth digit of an exponent is refused as 7.
 pub only_7 : (p r : Bytes) (b : ℕ) → Verdict house (p ++ (b ∷ r)) (Outcome.refused 7 (length p)) → T (is_digit b) × Breaks p × (Ends (Ending.power 2) p ⊎ Ends (Ending.power max_power_digits) p)

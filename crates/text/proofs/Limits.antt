@@ -167,6 +167,10 @@ module _ (C : Ceilings) where
           let two : 2 ≤ k = nltb→le k 2 q in
           Fitting.number (Fits.power {e = and_digit e b} {k = suc k} h h₂ (omega arith) (λ z. omega arith) (Allowed.allowed (sub (Gate.digits n) d) g))
       fit_number (Numeral.power neg c n f s e k) κ st ι b φ (Took.no _ l) = fit_after st (Node.number κ ι (normal neg c n f s e)) ι b l
+      fit_number Numeral.minus κ st ι b φ (Took.no _ (Took.no _ k)) = elim k [ ]
+      fit_number (Numeral.point neg c n) κ st ι b (Fits.point h d) (Took.no _ l) = elim l [ ]
+      fit_number (Numeral.mark neg c n f) κ st ι b (Fits.mark h h₂ d) (Took.no _ (Took.no _ (Took.no _ k))) = elim k [ ]
+      fit_number (Numeral.sign neg c n f s) κ st ι b (Fits.sign h h₂ d) (Took.no _ l) = elim l [ ]
 
       -- One step.
       pub fit_step : (s : State) (ι b : ℕ) {s' : State} → Fitting B s → Took C (move s ι b) s' → Fitting C s'
@@ -188,6 +192,9 @@ module _ (C : Ceilings) where
       fit_step (State.hex l a u us) ι b φ (Took.yes _ Took.go) = fit_hex l (16 * a + hex_value b) u us
       fit_step (State.member κ ms st) ι b φ k = plain tt k
       fit_step (State.named q us κ ms st) ι b φ k = plain tt k
+      fit_step (State.literal c ks v κ st) ι b φ (Took.no _ x13) = elim x13 [ ]
+      fit_step (State.chars u us) ι b φ (Took.no _ (Took.no _ (Took.no _ (Took.no _ x50)))) = elim x50 [ ]
+      fit_step (State.hex l a u us) ι b φ (Took.no _ x15) = elim x15 [ ]
 
       -- What fits ceilings fits looser ones.
       allowed_wide : {c n f : ℕ} {s : Bool} {e k : ℕ} → Allowed B c n f s e k → Allowed C c n f s e k

@@ -45,6 +45,7 @@ module _ {q : ℕ} {us : Units} where
     where
       by : TwiceAll q us (Nodes.cons v vs) ⊎ TwiceAll q us Nodes.nil → TwiceAll q us (Nodes.cons v vs)
       by (inl y) = y
+      by (inr x6) = elim x6 [ ]
 
   pub closed_object : {a e k : ℕ} {n : Units} {v : Node} {ms : Members}
       → Twice q us (Node.object a e (onto_members ms (Members.member k n v Members.empty))) → Open q us (Members.member k n v ms)
@@ -53,6 +54,7 @@ module _ {q : ℕ} {us : Units} where
     where
       by : {ns : List Units} → Open q us (Members.member k n v ms) ⊎ TwiceMembers q us ns Members.empty → Open q us (Members.member k n v ms)
       by (inl y) = y
+      by (inr x6) = elim x6 [ ]
 
   pub empty_array : {a e : ℕ} → Twice q us (Node.array a e Nodes.nil) → TwiceAll q us Nodes.nil
   empty_array (Twice.array x) = x

@@ -64,14 +64,17 @@ module _ (q : ℕ) (us : Units) where
 
   no_nodes : {K : Type 0} → TwiceAll q us Nodes.nil ⊎ K → K
   no_nodes (inr x) = x
+  no_nodes (inl x') = elim x' [ ]
 
   no_open : {K : Type 0} → Open q us Members.empty ⊎ K → K
   no_open (inr x) = x
+  no_open (inl x') = elim x' [ ]
 
   no_naming : {k : ℕ} {K R : Type 0} → Naming Members.empty K R k → K
   unfolding among names_of
   no_naming (Naming.outer x) = x
   no_naming (Naming.name t x) = absurd t
+  no_naming (before x'') = elim x'' [ ]
 
   -- In what a string is for; `R` says that a name comes to `us`.
   InUse : Use → Type 0 → Type 0
@@ -114,6 +117,7 @@ module _ (q : ℕ) (us : Units) where
     keeps_took (Keeps.ask f) (Took.ask _) = f
     keeps_took (Keeps.when h _) (Took.yes _ k) = keeps_took h k
     keeps_took (Keeps.when _ h) (Took.no _ k) = keeps_took h k
+    keeps_took bad x3 = elim x3 [ ]
 
     -- Such are the moves behind a value, where a value is due, in a number and in a new array.
     module _ (i : Source) {K : Type 0} where
@@ -159,6 +163,7 @@ module _ (q : ℕ) (us : Units) where
       unfolding close_move InUse Holds
       back_close (Use.value a st) l n Took.go (inl x) = x
       back_close (Use.name k a ms st) l n (Took.ask _) x = naming_map (λ e. (n, i, [], Chars.close, e)) x
+      back_close (Use.value a st) l n Took.go (inr x8) = elim x8 [ ]
 
       back_hex : (h : Left) (a : ℕ) (u : Use) (l : Units) (n b : ℕ) → T (is_hex b) → Holds (hex_state h (16 * a + hex_value b) u l) (from (suc n) i) → InUse u (Goes (HexRest C h a) l (from n (b ∷ i)))
       unfolding hex_state Holds onto
@@ -169,6 +174,7 @@ module _ (q : ℕ) (us : Units) where
       unfolding word_state Holds
       back_word [] v a st n (inl x) = x
       back_word (k ∷ ks) v a st n x = x
+      back_word [] v a st n (inr x'') = elim x'' [ ]
 
       back_name : {a n b : ℕ} {ms : Members} {st : Stack} → T (eqb b (code "\"")) → Naming ms (Kept st) (Goes (Chars C) [] (from (suc n) i)) n
           → (Open q us ms ⊎ Kept st) ⊎ Opened (State.member a ms st) n (b ∷ i)
@@ -201,6 +207,13 @@ module _ (q : ℕ) (us : Units) where
       back (State.member a ms st) n b (Took.no _ (Took.yes p Took.go)) x = back_name p x
       back (State.named k l a ms st) n b (Took.yes _ Took.go) x = inl x
       back (State.named k l a ms st) n b (Took.no _ (Took.yes _ Took.go)) x = inl x
+      back (Rattle.text.proofs.Machine.object a st) n b (Took.no _ (Took.no _ (Took.no _ (Took.no _ x74)))) x = elim x74 [ ]
+      back (State.literal c ks v a st) n b (Took.no _ x21) x = elim x21 [ ]
+      back (State.chars u l) n b (Took.no _ (Took.no _ (Took.no _ (Took.no _ x76)))) x = elim x76 [ ]
+      back (State.escape u l) n b (Took.no _ (Took.no _ x41)) x = elim x41 [ ]
+      back (State.hex h a u l) n b (Took.no _ x24) x = elim x24 [ ]
+      back (State.member a ms st) n b (Took.no _ (Took.no _ x43)) x = elim x43 [ ]
+      back (State.named k l a ms st) n b (Took.no _ (Took.no _ x44)) x = elim x44 [ ]
 
       back_on : {s s' : State} {n b : ℕ} → Took C (move s n b) s' → Holds s' (from (suc n) i) ⊎ Opened s' (suc n) i → Holds s (from n (b ∷ i)) ⊎ Opened s n (b ∷ i)
       back_on {s} {n = n} {b = b} k (inl x) = back s n b k x

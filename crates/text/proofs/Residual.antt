@@ -51,9 +51,13 @@ module _ (C : Ceilings) (neg : Bool) (ds : Bytes) {j o : Source} where
       (AfterWhole.fraction f (AfterFraction.power e (rw (value_append 0 ds fs, ← count_append ds fs, ← count_all fs, ← count_all es) at l)))
 
   pub number_of : {h i : Source} {x : Decimal} → Minus h i neg → Whole i j ds → AfterWhole C neg (value_from 0 ds) (count_from 0 ds) j o x → Number C h o x
-  number_of m w (AfterWhole.fraction {fs = fs} f (AfterFraction.power {es = es} e l)) =
-      rw (← value_append 0 ds fs, count_append ds fs, count_all fs)
-      (Number.number m w f e (rw (← value_append 0 ds fs, count_append ds fs, count_all fs, count_all es) at l))
+  number_of {h = h} {x = x} m w (AfterWhole.fraction {fs = fs} f y) = by fs x f y
+    where
+      by : {k : Source} (fs : Bytes) (x : Decimal) → Fraction j k fs
+          → AfterFraction C neg (value_from (value_from 0 ds) fs) (count_from (count_from 0 ds) fs) (count_from 0 fs) k o x → Number C h o x
+      by fs x f (AfterFraction.power {es = es} e l) =
+          rw (← value_append 0 ds fs, count_append ds fs, count_all fs)
+          (Number.number m w f e (rw (← value_append 0 ds fs, count_append ds fs, count_all fs, count_all es) at l))
 
 -- The rest of a number.
 pub data NumeralRest (C : Ceilings) : Numeral → Source → Source → Decimal → Type 0 where

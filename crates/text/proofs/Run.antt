@@ -55,6 +55,7 @@ took_fault (Took.yes p f) (Fault.yes q g) = took_fault f g
 took_fault (Took.yes {c = c} p f) (Fault.no q g) = T_not c q p
 took_fault (Took.no {c = c} p f) (Fault.yes q g) = T_not c p q
 took_fault (Took.no p f) (Fault.no q g) = took_fault f g
+took_fault go x4 = elim x4 [ ]
 
 pub data Judged (C : Ceilings) (m : Move) : Type 0 where
   took : (s : State) → Took C m s → Judged C m
@@ -186,6 +187,7 @@ module _ (C : Ceilings) where
   leads_fault (Leads.yes {c = c} p n) (Fault.no q f) = T_not c q p
   leads_fault (Leads.no {c = c} p n) (Fault.yes q f) = T_not c p q
   leads_fault (Leads.no p n) (Fault.no _ f) = leads_fault n f
+  leads_fault (Leads.go _) x4 = elim x4 [ ]
 
   -- One byte, both ways.
   pub follows_before : {s s' : State} {n b : ℕ} {w : Bytes} {r : Node} → Fitting C s → Took C (move s n b) s' → Follows C s' (from (suc n) w) r → Follows C s (from n (b ∷ w)) r
@@ -242,6 +244,23 @@ module _ (C : Ceilings) where
   follows_done (Follows.array (rule.array_first v t) a) = absurd (value_some v)
   follows_done (Follows.object (rule.object_first k) a) = absurd (member_some k)
   follows_done (Follows.named (AfterName.named c a)) = absurd (named_some c)
+  follows_done (Follows.number (NumeralRest.minus x28 _) _) = elim x28 [ ]
+  follows_done (Follows.number (NumeralRest.zero (AfterWhole.fraction Fraction.none (AfterFraction.power Power.none l))) (After.array x73 _)) = elim x73 [ ]
+  follows_done (Follows.number (NumeralRest.zero (AfterWhole.fraction Fraction.none (AfterFraction.power Power.none l))) (After.object x74 _)) = elim x74 [ ]
+  follows_done (Follows.number (NumeralRest.whole Digits.none (AfterWhole.fraction Fraction.none (AfterFraction.power Power.none l))) (After.array x87 _)) = elim x87 [ ]
+  follows_done (Follows.number (NumeralRest.whole Digits.none (AfterWhole.fraction Fraction.none (AfterFraction.power Power.none l))) (After.object x88 _)) = elim x88 [ ]
+  follows_done (Follows.number (NumeralRest.fraction Digits.none (AfterFraction.power Power.none l)) (After.array x65 _)) = elim x65 [ ]
+  follows_done (Follows.number (NumeralRest.fraction Digits.none (AfterFraction.power Power.none l)) (After.object x66 _)) = elim x66 [ ]
+  follows_done (Follows.number (NumeralRest.mark x36 _ _ _) _) = elim x36 [ ]
+  follows_done (Follows.number (NumeralRest.power Digits.none l) (After.array x41 _)) = elim x41 [ ]
+  follows_done (Follows.number (NumeralRest.power Digits.none l) (After.object x42 _)) = elim x42 [ ]
+  follows_done (Follows.after (After.array x14 _)) = elim x14 [ ]
+  follows_done (Follows.after (After.object x15 _)) = elim x15 [ ]
+  follows_done (Follows.literal x9 _) = elim x9 [ ]
+  follows_done (Follows.chars x10 _) = elim x10 [ ]
+  follows_done (Follows.escape x _) = elim x [ ]
+  follows_done (Follows.hex x _) = elim x [ ]
+  follows_done (Follows.member x7 _) = elim x7 [ ]
 
   pub done_one : {s : State} {n : ℕ} {v v' : Node} → Done s n v → Done s n v' → v ≡ v'
   done_one Done.after Done.after = refl

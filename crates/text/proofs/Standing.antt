@@ -92,6 +92,9 @@ module _ {C : Ceilings} where
   after_stands x (Frame.object a ms q us ∷ st) v n b (Took.yes p Took.go) = space x b p (Stands.after tt)
   after_stands x (Frame.object a ms q us ∷ st) v n b (Took.no _ (Took.yes p Took.go)) = byte x b (code "}") p (Stands.after tt)
   after_stands x (Frame.object a ms q us ∷ st) v n b (Took.no _ (Took.no _ (Took.yes p Took.go))) = byte x b (code ",") p Stands.member
+  after_stands x [] v n b (Took.no _ x14) = elim x14 [ ]
+  after_stands x (Frame.array a vs ∷ st) v n b (Took.no _ (Took.no _ (Took.no _ x41))) = elim x41 [ ]
+  after_stands x (Frame.object a ms q us ∷ st) v n b (Took.no _ (Took.no _ (Took.no _ x42))) = elim x42 [ ]
 
   number_stands : (ns : Numeral) (i : ℕ) (st : Stack) (n b : ℕ) {x : Ending} {s : State} → Stands (State.number ns i st) x → Took C (number_move ns i st n b) s → Stands s (next x b)
   unfolding number_move next and_one and_sign
@@ -115,6 +118,10 @@ module _ {C : Ceilings} where
   number_stands (Numeral.power neg c m f d e j) i st n b {x} Stands.power (Took.yes p (Took.yes _ Took.go)) = digit x b p Stands.power
   number_stands (Numeral.power neg c m f d e j) i st n b {x} Stands.power (Took.yes p (Took.no _ (Took.ask _))) = digit x b p Stands.power
   number_stands (Numeral.power neg c m f d e j) i st n b {x} Stands.power (Took.no _ k) = after_stands x st (Node.number i n (normal neg c m f d e)) n b k
+  number_stands Numeral.minus i st n b minus (Took.no _ (Took.no _ k)) = elim k [ ]
+  number_stands (Numeral.point neg c m) i st n b (point h) (Took.no _ k) = elim k [ ]
+  number_stands (Numeral.mark neg c m f) i st n b mark (Took.no _ (Took.no _ (Took.no _ k))) = elim k [ ]
+  number_stands (Numeral.sign neg c m f d) i st n b sign (Took.no _ k) = elim k [ ]
 
   value_stands : (st : Stack) (n b : ℕ) {s : State} → Took C (value_move st n b) s → Stands s (next (Ending.digits 0) b)
   unfolding value_move other_move next and_one and_sign bare lower
@@ -128,11 +135,13 @@ module _ {C : Ceilings} where
   value_stands st n b (Took.no _ (Took.no _ (Took.no _ (Took.no _ (Took.no _ (Took.no _ (Took.no _ (Took.yes p Took.go)))))))) = Stands.chars
   value_stands st n b (Took.no _ (Took.no _ (Took.no _ (Took.no _ (Took.no _ (Took.no _ (Took.no _ (Took.no _ (Took.yes p (Took.ask _)))))))))) = byte (Ending.digits 0) b (code "[") p Stands.array
   value_stands st n b (Took.no _ (Took.no _ (Took.no _ (Took.no _ (Took.no _ (Took.no _ (Took.no _ (Took.no _ (Took.no _ (Took.yes p (Took.ask _))))))))))) = byte (Ending.digits 0) b (code "{") p Stands.object
+  value_stands st n b (Took.no _ (Took.no _ (Took.no _ (Took.no _ (Took.no _ (Took.no _ (Took.no _ (Took.no _ (Took.no _ (Took.no _ x120)))))))))) = elim x120 [ ]
 
   member_stands : (a : ℕ) (ms : Members) (st : Stack) (n b : ℕ) {s : State} → Took C (member_move a ms st n b) s → Stands s (next (Ending.digits 0) b)
   unfolding member_move next
   member_stands a ms st n b (Took.yes p Took.go) = space (Ending.digits 0) b p Stands.member
   member_stands a ms st n b (Took.no _ (Took.yes p Took.go)) = Stands.chars
+  member_stands a ms st n b (Took.no _ (Took.no _ x24)) = elim x24 [ ]
 
   close_stands : (x : Ending) (u : Use) (us : Units) (n b : ℕ) {s : State} → T (eqb b (code "\"")) → Took C (close_move u us n) s → Stands s (next x b)
   unfolding close_move next bare
@@ -162,6 +171,11 @@ module _ {C : Ceilings} where
   step_stands (State.member a ms st) n b Stands.member k = member_stands a ms st n b k
   step_stands (State.named q us a ms st) n b {x} Stands.named (Took.yes p Took.go) = space x b p Stands.named
   step_stands (State.named q us a ms st) n b {x} Stands.named (Took.no _ (Took.yes p Took.go)) = byte x b (code ":") p Stands.value
+  step_stands (State.literal c ks v a st) n b (literal l h) (Took.no _ x21) = elim x21 [ ]
+  step_stands (State.chars u us) n b chars (Took.no _ (Took.no _ (Took.no _ (Took.no _ x55)))) = elim x55 [ ]
+  step_stands (State.escape u us) n b escape (Took.no _ (Took.no _ k)) = elim k [ ]
+  step_stands (State.hex l a u us) n b hex (Took.no _ x23) = elim x23 [ ]
+  step_stands (State.named q us a ms st) n b named (Took.no _ (Took.no _ k)) = elim k [ ]
 
   -- The way over some bytes.
   went_stands : {s s' : State} {n j : ℕ} {p : Bytes} {x : Ending} → Stands s x → Went C s n p s' j → Stands s' (ending_from x p)

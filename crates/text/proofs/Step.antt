@@ -136,6 +136,7 @@ module _ (C : Ceilings) where
   backward_other st ι b {w} {r} (Leads.no _ (Leads.no _ (Leads.no _ (Leads.no _ (Leads.yes p (Leads.go (Follows.chars s (Closed.value a)))))))) = byte_at (code "\"") (λ k. Follows C (State.value st) (from ι (k ∷ w)) r) p (Follows.value (rule.string s) a)
   backward_other st ι b {w} {r} (Leads.no _ (Leads.no _ (Leads.no _ (Leads.no _ (Leads.no _ (Leads.yes p (Leads.ask g (Follows.array l a)))))))) = byte_at (code "[") (λ k. Follows C (State.value st) (from ι (k ∷ w)) r) p (Follows.value (rule.array g l) a)
   backward_other st ι b {w} {r} (Leads.no _ (Leads.no _ (Leads.no _ (Leads.no _ (Leads.no _ (Leads.no _ (Leads.yes p (Leads.ask g (Follows.object l a))))))))) = byte_at (code "{") (λ k. Follows C (State.value st) (from ι (k ∷ w)) r) p (Follows.value (rule.object g l) a)
+  backward_other st ι b (Leads.no _ (Leads.no _ (Leads.no _ (Leads.no _ (Leads.no _ (Leads.no _ (Leads.no _ x70))))))) = elim x70 [ ]
 
   backward_value : (st : Stack) (ι b : ℕ) {w : Bytes} {r : Node} → Then C (value_move st ι b) (from (suc ι) w) r → Follows C (State.value st) (from ι (b ∷ w)) r
   unfolding value_move value_from count_from
@@ -159,6 +160,7 @@ module _ (C : Ceilings) where
   backward_member κ ms st ι b (Leads.yes p (Leads.go (Follows.member k a))) = Follows.member (rule.member_space p k) a
   backward_member κ ms st ι b {w} {r} (Leads.no _ (Leads.yes p (Leads.go (Follows.chars s (Closed.name g (AfterName.named c a)))))) =
       byte_at (code "\"") (λ k. Follows C (State.member κ ms st) (from ι (k ∷ w)) r) p (Follows.member (rule.member_name s g c) a)
+  backward_member κ ms st ι b (Leads.no _ (Leads.no _ x20)) = elim x20 [ ]
 
   first_val : (κ : ℕ) (st : Stack) {w : Source} {r : Node} → Follows C (State.value (Frame.array κ Nodes.nil ∷ st)) w r → Follows C (State.array κ st) w r
   unfolding onto_nodes depth_of
@@ -197,3 +199,9 @@ module _ (C : Ceilings) where
   backward (State.named q us κ ms st) ι b φ (Leads.yes p (Leads.go (Follows.named (AfterName.named c a)))) = Follows.named (AfterName.named (rule.named_space p c) a)
   backward (State.named q us κ ms st) ι b {w} {r} φ (Leads.no _ (Leads.yes p (Leads.go (Follows.value v (After.object t a))))) =
       byte_at (code ":") (λ k. Follows C (State.named q us κ ms st) (from ι (k ∷ w)) r) p (Follows.named (AfterName.named (rule.named_colon v t) a))
+  backward (State.literal k ks v κ st) ι b φ (Leads.no _ x11) = elim x11 [ ]
+  backward (State.chars u us) ι b φ (Leads.no _ (Leads.no _ (Leads.no _ (Leads.no _ x42)))) = elim x42 [ ]
+  backward (State.escape u us) ι b φ (Leads.no _ (Leads.no _ n)) = elim n [ ]
+  backward (State.hex Left.last a u us) ι b φ (Leads.no _ x15) = elim x15 [ ]
+  backward (State.hex (Left.more l) a u us) ι b φ (Leads.no _ x16) = elim x16 [ ]
+  backward (State.named q us κ ms st) ι b φ (Leads.no _ (Leads.no _ n)) = elim n [ ]

@@ -66,6 +66,9 @@ module _ (C : Ceilings) where
   backward_after (Frame.object κ ms q us ∷ st) v ι b {w} {r} (Leads.no _ (Leads.yes p (Leads.go (Follows.after a)))) = byte_at (code "}") (λ k. After C (Frame.object κ ms q us ∷ st) v (from ι (k ∷ w)) r) p (After.object rule.rest_close a)
   backward_after (Frame.object κ ms q us ∷ st) v ι b {w} {r} (Leads.no _ (Leads.no _ (Leads.yes p (Leads.go (Follows.member x a))))) =
       byte_at (code ",") (λ k. After C (Frame.object κ ms q us ∷ st) v (from ι (k ∷ w)) r) p (After.object (rule.rest_comma x) a)
+  backward_after [] v ι b (Leads.no _ x11) = elim x11 [ ]
+  backward_after (Frame.array κ vs ∷ st) v ι b (Leads.no _ (Leads.no _ (Leads.no _ x34))) = elim x34 [ ]
+  backward_after (Frame.object κ ms q us ∷ st) v ι b (Leads.no _ (Leads.no _ (Leads.no _ x35))) = elim x35 [ ]
 
   fraction_digits : {neg : Bool} {c n f : ℕ} {i o : Source} {x : Decimal} → AfterFraction C neg c n f i o x → T (C (Gate.digits n))
   fraction_digits (AfterFraction.power e (Allowed.allowed d _)) = d
@@ -155,3 +158,7 @@ module _ (C : Ceilings) where
   backward_number (Numeral.power neg c n f s e k) κ st ι b φ (Leads.yes p (Leads.yes _ (Leads.go (Follows.number (NumeralRest.power d l) a)))) = Follows.number (NumeralRest.power (Digits.more p d) l) a
   backward_number (Numeral.power neg c n f s e k) κ st ι b φ (Leads.yes p (Leads.no _ (Leads.ask g (Follows.number (NumeralRest.power d l) a)))) = Follows.number (NumeralRest.power (Digits.more p d) l) a
   backward_number (Numeral.power neg c n f s e k) κ st ι b (Fits.power _ _ _ _ l) (Leads.no _ m) = Follows.number (NumeralRest.power Digits.none l) (backward_after st (Node.number κ ι (normal neg c n f s e)) ι b m)
+  backward_number Numeral.minus κ st ι b φ (Leads.no _ (Leads.no _ n)) = elim n [ ]
+  backward_number (Numeral.point neg c n) κ st ι b φ (Leads.no _ m) = elim m [ ]
+  backward_number (Numeral.mark neg c n f) κ st ι b φ (Leads.no _ (Leads.no _ (Leads.no _ m))) = elim m [ ]
+  backward_number (Numeral.sign neg c n f s) κ st ι b φ (Leads.no _ m) = elim m [ ]

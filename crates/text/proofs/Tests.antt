@@ -13,6 +13,7 @@ is_true e = subst T (sym e) tt
 
 pub true_is : (a : Bool) → T a → a ≡ true
 true_is true t = refl
+true_is false t = elim t [ ]
 
 pub and_left : (a b : Bool) → T (a && b) → T a
 and_left true b t = tt
@@ -24,12 +25,14 @@ and_right false b t = absurd t
 
 pub both : (a b : Bool) → T a → T b → T (a && b)
 both true b t u = u
+both false b t u = elim t [ ]
 
 pub le_both : (a b c d : ℕ) → a ≤ b → c ≤ d → T (leb a b && leb c d)
 le_both a b c d h k = both (leb a b) (leb c d) (le→leb a b h) (le→leb c d k)
 
 pub or_left : (a b : Bool) → T a → T (a || b)
 or_left true b t = tt
+or_left false b t = elim t [ ]
 
 pub or_right : (a b : Bool) → T b → T (a || b)
 or_right true b t = tt
@@ -41,6 +44,7 @@ either false b f g t = g t
 
 pub neither : (a b : Bool) → T (not a) → T (not b) → T (not (a || b))
 neither false b t u = u
+neither true b t u = elim t [ ]
 
 -- A test that holds of each number below `n` holds of one below `n`.
 unfoldable pub each : (ℕ → Bool) → ℕ → Bool
