@@ -33,6 +33,7 @@ in_at {k = k} {t = t} (KeepsPairs.pair {k = j} {ps = ps} u f o os) (In.first e) 
 in_at {k = k} {t = t} (KeepsPairs.pair {k = j} {t = s} {ps = ps} u f o os) (In.later i) =
     let h : at ps k ≡ Maybe.some (mean t) = in_at os i in
     at_other j s ps k (λ e. some_none (sym h ∙ ap (at ps) e ∙ f)) ∙ h
+in_at (KeepsPairs.empty) x4 = elim x4 [ ]
 
 at_in : (ps : Pairs) (k : Units) {m : Meaning} → at ps k ≡ Maybe.some m → (t : Tree) × In k t ps × (mean t ≡ m)
 unfolding at

@@ -202,6 +202,14 @@ mutual
   one Sorted.number s Shape.number = refl
   one (Sorted.array x) (Sorted.array y) (Shape.array e) = ap Tree.array (one_all x y e)
   one (Sorted.object x) (Sorted.object y) (Shape.object e) = ap Tree.object (one_pairs x y e)
+  one (Sorted.array x) (Sorted.literal) x13 = elim x13 [ ]
+  one (Sorted.array x) (Sorted.string) x14 = elim x14 [ ]
+  one (Sorted.array x) Sorted.number x16 = elim x16 [ ]
+  one (Sorted.array x) (Sorted.object y) x17 = elim x17 [ ]
+  one (Sorted.object x) (Sorted.literal) x14 = elim x14 [ ]
+  one (Sorted.object x) (Sorted.string) x15 = elim x15 [ ]
+  one (Sorted.object x) Sorted.number x17 = elim x17 [ ]
+  one (Sorted.object x) (Sorted.array y) x18 = elim x18 [ ]
 
   one_all : {ts ss : Trees} → SortedAll ts → SortedAll ss → means ss ≡ means ts → ts ≡ ss
   one_all SortedAll.nil SortedAll.nil e = refl

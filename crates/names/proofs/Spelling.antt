@@ -14,6 +14,7 @@ use mathlib.Core.Path.{◌∙◌, ◌≡◌, ap, refl}
 
 is_false : (x : Bool) → T (not x) → x ≡ false
 is_false false t = refl
+is_false mathlib.Core.Bool.true t = elim t [ ]
 
 -- A byte of a class `P` without `k` is not `k`.
 module _ (P : ℕ → Bool) (b : ℕ) (t : T (P b)) where
