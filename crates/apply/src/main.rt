@@ -1,5 +1,7 @@
 // Merges `patch.json` into `target.json`, both in the folder it is run in, and writes the canonical text of
 // the result, or `refused N in I at P`, and a line feed.
+#![tactic(auto)]
+
 ghost use Rattle.std.specs.Prelude.{◌*◌, ◌<◌, length, take};
 ghost use Rattle.console.specs.Programs.{Apply, longest};
 ghost use Rattle.io.specs.Counts.{IsPrefixLen};

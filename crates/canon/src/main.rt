@@ -1,4 +1,6 @@
 // Reads a text from standard input and writes its canonical text, or `refused N at P`, and a line feed.
+#![tactic(auto)]
+
 ghost use Rattle.std.specs.Prelude.{◌*◌, ◌<◌, length, take};
 ghost use Rattle.console.specs.Programs.{Canon, longest};
 ghost use Rattle.io.specs.Counts.{IsPrefixLen};

@@ -1,4 +1,6 @@
 // What programs share: texts of up to 1,024 bytes, the line of a refusal, and what is said of a comparison.
+#![tactic(auto)]
+
 pub mod file;
 pub mod front;
 pub mod line;

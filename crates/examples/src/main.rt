@@ -1,5 +1,7 @@
 // Runs 01's examples of texts and of the writer. Each line has a text, what it gives, and `ok` where that is
 // what 01 says, or `WRONG`. Pointers and merges have programs of their own.
+#![tactic(auto)]
+
 use check::same;
 use console::front::front;
 use console::show::show_number;

@@ -1,5 +1,7 @@
 // Runs the leaves on tokens at both sides of each edge, and writes for each the refusal's number and place,
 // or 0 and the offset behind what was read; of a number also what it comes to.
+#![tactic(auto)]
+
 use scan::bytes::opens_number;
 use scan::number::{Number, Written, number_at};
 use scan::space::skip;

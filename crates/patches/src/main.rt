@@ -1,6 +1,8 @@
 // Merges the fifteen pairs of RFC 7396 appendix A, and the targets and patches of 01's examples. Each line
 // has target, patch and what is written, and `ok` where that is the canonical text of the result that the
 // RFC or 01 gives, or `WRONG`.
+#![tactic(auto)]
+
 use check::same;
 use console::front::front;
 use console::verdict::verdict;

@@ -1,6 +1,8 @@
 // Looks up the twelve pointers of RFC 6901 section 5 in its document, and the pointers of 01's examples.
 // Each line has a pointer, what it gives, and `ok` where that is what the RFC or 01 says, byte for byte,
 // or `WRONG`.
+#![tactic(auto)]
+
 use check::same;
 use console::verdict::verdict;
 use nibrocate::find::find;

@@ -1,4 +1,6 @@
 // The reader: a lent text fills a lent table of records, or is refused with its number and place.
+#![tactic(auto)]
+
 pub mod answer;
 pub mod close;
 pub mod entry;

@@ -1,5 +1,7 @@
 // Leaves over a lent text: whitespace, fixed words, strings and numbers. Each says how far it read, or
 // the number and place of a refusal, in terms of what a reader that leaves names for later answers.
+#![tactic(auto)]
+
 pub mod bytes;
 pub mod digits;
 pub mod exponent;
