@@ -35,6 +35,7 @@ open_any f (Gate.depth d) p = p
 open_any f (Gate.high b) p = p
 open_any f (Gate.digits n) p = p
 open_any f (Gate.power c n m down e k) p = p
+open_any f (Gate.name _ _) p = elim p [ ]
 
 shut_any : (f : Judge) (g : Gate) → T (not (loose g)) → T (not (judging f g))
 unfolding judging
@@ -42,6 +43,7 @@ shut_any f (Gate.depth d) p = p
 shut_any f (Gate.high b) p = p
 shut_any f (Gate.digits n) p = p
 shut_any f (Gate.power c n m down e k) p = p
+shut_any f (Gate.name _ _) p = elim p [ ]
 
 took_any : (f : Judge) {m : Move} {s : State} → Took shut m s → Took (judging f) m s
 took_any f Took.go = Took.go

@@ -8,7 +8,7 @@ use crate::limits::MAX_DIGITS;
 
 // Digits up to the offset `end`: `digits` of them come to `coefficient`. More than `MAX_DIGITS` stand for a
 // refusal at `end`, whose number is by how much they are more.
-#[derive(Drop)]
+#[derive(Clone, Copy)]
 pub struct Digits {
     pub end: usize,
     pub coefficient: u64,

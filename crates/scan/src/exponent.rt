@@ -5,7 +5,7 @@ ghost use Rattle.text.specs.Decimal.{exponent_of, normal, zeros};
 
 // What stands before an exponent: `digits` digits that come to `coefficient`, the last `fraction` of them
 // behind the point.
-#[derive(Drop)]
+#[derive(Clone, Copy)]
 pub struct Mantissa {
     pub negative: bool,
     pub coefficient: u64,

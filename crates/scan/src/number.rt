@@ -14,7 +14,7 @@ use crate::power::tail_at;
 
 // A number as it is written up to the offset `end`: `digits` digits come to `coefficient`, the last
 // `fraction` of them behind the point, times ten to the `power`, or to minus `power` if `down`.
-#[derive(Drop)]
+#[derive(Clone, Copy)]
 pub struct Written {
     pub negative: bool,
     pub coefficient: u64,
@@ -26,7 +26,7 @@ pub struct Written {
 }
 
 // A number, or a refusal's number and place.
-#[derive(Drop)]
+#[derive(Clone, Copy)]
 pub enum Number {
     Decimal(Written),
     Refused(u64, usize),
