@@ -2,4 +2,3 @@
 // input. Definitions stand in specs/; that each leaves one outcome only is proved in proofs/. There
 // is no code here.
 #![tactic(auto)]
-

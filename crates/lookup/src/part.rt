@@ -6,7 +6,7 @@ use members::record::word_at;
 
 // A part of a text, by the offsets of its first byte and behind its last.
 #[repr(C)]
-#[derive(Drop)]
+#[derive(Clone, Copy)]
 pub struct Part {
     pub start: usize,
     pub end: usize,

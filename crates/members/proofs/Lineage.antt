@@ -28,12 +28,14 @@ module _ {w : Words} {end : ℕ} where
   siblings_between (Siblings.more h s) In.here = (omega arith, omega (arith, h, siblings_end s))
   siblings_between (Siblings.more h s) (In.there i) =
       let b = siblings_between s i in (omega (arith, h, b.0), b.1)
+  siblings_between Siblings.none x4 = elim x4 [ ]
 
   -- What follows one of them stands no farther than the end.
   pub siblings_near : {r v : ℕ} {l : List ℕ} → Siblings w end r l → In v l → next_of w v ≤ end
   unfolding next_of
   siblings_near (Siblings.more h s) In.here = siblings_end s
   siblings_near (Siblings.more h s) (In.there i) = siblings_near s i
+  siblings_near Siblings.none x4 = elim x4 [ ]
 
   pub siblings_rising : {r : ℕ} {l : List ℕ} → Siblings w end r l → Sorted ltb l
   siblings_rising Siblings.none = Sorted.none

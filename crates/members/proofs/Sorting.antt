@@ -29,6 +29,7 @@ module _ {lt : ℕ → ℕ → Bool} where
   pub sorted_across : {u v : ℕ} (a : List ℕ) {b : List ℕ} → Sorted lt (a ++ b) → In u a → In v b → lt u v ≡ true
   sorted_across (x ∷ a) (Sorted.more h s) In.here j = h _ (in_right a j)
   sorted_across (x ∷ a) (Sorted.more h s) (In.there i) j = sorted_across a s i j
+  sorted_across [] _ x4 j = elim x4 [ ]
 
 -- What implies an order keeps a list sorted.
 pub sorted_map : (lt le : ℕ → ℕ → Bool) → ((a b : ℕ) → lt a b ≡ true → le a b ≡ true) → {l : List ℕ} → Sorted lt l → Sorted le l

@@ -9,7 +9,7 @@ use crate::siblings::{ascending, count};
 use crate::sort::sort;
 
 // A chain of `count` records, each but the first found by the link of the one before.
-#[derive(Drop)]
+#[derive(Clone, Copy)]
 pub struct Chain {
     pub head: usize,
     pub count: usize,

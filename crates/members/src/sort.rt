@@ -9,7 +9,7 @@ use crate::merge::merge;
 use crate::record::next;
 
 // A chain's head, and the sibling behind the records that it has.
-#[derive(Drop)]
+#[derive(Clone, Copy)]
 pub struct Half {
     pub head: usize,
     pub rest: usize,

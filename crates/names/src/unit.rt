@@ -9,7 +9,7 @@ use crate::escape::{escape_unit, hex_unit, wide};
 pub const END: u64 = 4294967296;
 
 // A unit and the offset behind it, or `END`.
-#[derive(Drop)]
+#[derive(Clone, Copy)]
 pub struct Unit {
     pub code: u64,
     pub next: usize,

@@ -5,7 +5,7 @@ ghost use Rattle.text.specs.Table.{unnamed};
 
 // Number, input and place of a refusal, or number 0 and the count.
 #[repr(C)]
-#[derive(Drop)]
+#[derive(Clone, Copy)]
 pub struct Answer {
     pub number: u32,
     pub input: u32,

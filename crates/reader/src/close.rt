@@ -8,7 +8,7 @@ use crate::record::close;
 use members::repeat::first_repeat;
 
 // The record around a container that was closed, and the first repeated name of all closed objects.
-#[derive(Drop)]
+#[derive(Clone, Copy)]
 pub struct Closed {
     pub around: usize,
     pub first: usize,

@@ -11,7 +11,7 @@ use scan::string::string_at;
 
 // Number 0 and where the value is due, or a refusal's number and place; and the opening quote of the
 // name that was read, or `UNNAMED`.
-#[derive(Drop)]
+#[derive(Clone, Copy)]
 pub struct Entry {
     pub number: u64,
     pub at: usize,

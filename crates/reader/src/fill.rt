@@ -15,7 +15,7 @@ use scan::space::skip;
 // reading has stopped it also says with which number, 0 or a refusal's, and at which place; how many
 // records are written, and which is that of the innermost open container; the name of a value that is
 // due, and the first repeated name of the objects that are closed.
-#[derive(Drop)]
+#[derive(Clone, Copy)]
 pub struct State {
     pub depth: usize,
     pub marks: [u8; 64],

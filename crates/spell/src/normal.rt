@@ -10,7 +10,7 @@ use scan::number::{Number, Written, number_at};
 
 // The coefficient, which does not end in 0, times ten to the `power`, or to minus `power` if `down`.
 // Zero is never negative, and has the power 0.
-#[derive(Drop)]
+#[derive(Clone, Copy)]
 pub struct Normal {
     pub negative: bool,
     pub coefficient: u64,

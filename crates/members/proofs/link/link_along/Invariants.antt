@@ -1,0 +1,11 @@
+-- The siblings before `r` are linked as they stand.
+use Rattle.members.proofs.Laying.{Laying}
+use Rattle.members.specs.Chains.{siblings_of}
+use Rattle.members.specs.Records.{next_of}
+use Rattle.members.proofs.link.link_along.Given as goal
+
+abbrev pub invariant-loop-i : goal.invariant-loop-i
+invariant-loop-i l = Laying (next_of l.initial.table) (siblings_of l.initial.table l.n l.first) l.initial.table l.table l.r l.i
+
+abbrev pub decreases-loop-i : goal.decreases-loop-i
+decreases-loop-i l = l.i

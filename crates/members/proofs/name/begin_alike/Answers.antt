@@ -1,0 +1,13 @@
+use Rattle.members.proofs.Naming.{begin_alike}
+use mathlib.Core.Bool.{false≢true}
+use native.Mathlib.Omega.{arith}
+use Rattle.members.proofs.name.begin_alike.Goals as goal
+
+pub returns-then-text-i : goal.returns-then-text-i
+returns-then-text-i c = λ e. absurd (false≢true e)
+
+pub returns-then-text-j : goal.returns-then-text-j
+returns-then-text-j c = λ e. absurd (false≢true e)
+
+pub returns : goal.returns
+returns c = λ e. begin_alike c.args.text.now c.args.i c.args.j (omega arith) (omega arith) e
