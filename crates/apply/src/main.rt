@@ -9,9 +9,9 @@ ghost use Rattle.io.specs.Counts.{IsPrefixLen};
 use console::file::read_file;
 use console::line::put_refused_in;
 use console::{LONGEST, ROOM, WORDS};
-use libc::STDOUT_FILENO;
 use nibrocate::merge::merge;
 use nibrocate::read::read;
+use std::io;
 
 // The canonical text of a merge has at most six bytes for each byte of target and patch; the line feed
 // follows it.
@@ -45,12 +45,12 @@ fn apply(target: &[u8], patch: &[u8], line: &mut [u8]) -> usize
     n + 1
 }
 
-fn main() {
+fn main(rt: HostRuntime) -> io::Result<()> {
     let mut target = [0; ROOM];
-    let n = read_file(b"target.json", &mut target);
+    let n = read_file(&rt, b"target.json", &mut target);
     let mut patch = [0; ROOM];
-    let m = read_file(b"patch.json", &mut patch);
+    let m = read_file(&rt, b"patch.json", &mut patch);
     let mut line = [0; LINE];
     let k = apply(&target[..n], &patch[..m], &mut line);
-    io::write_all(STDOUT_FILENO, &line[..k]);
+    rt.write_all(&line[..k])
 }

@@ -5,10 +5,11 @@ ghost use Rattle.std.specs.Prelude.{◌*◌, ◌<◌, length, take};
 ghost use Rattle.console.specs.Programs.{Canon, longest};
 ghost use Rattle.io.specs.Counts.{IsPrefixLen};
 
+use console::file::read_full;
 use console::line::put_refused_at;
 use console::{LONGEST, ROOM, WORDS};
-use libc::{STDIN_FILENO, STDOUT_FILENO};
 use nibrocate::write::write;
+use std::io;
 
 // A canonical text has at most six bytes for each byte of its text; the line feed follows it.
 const LINE: usize = 6 * LONGEST + 1;
@@ -32,10 +33,10 @@ fn canon(text: &[u8], line: &mut [u8]) -> usize
     n + 1
 }
 
-fn main() {
+fn main(rt: HostRuntime) -> io::Result<()> {
     let mut room = [0; ROOM];
-    let n = io::read_full(STDIN_FILENO, &mut room);
+    let n = read_full(&mut rt.stdin(), &mut room);
     let mut line = [0; LINE];
     let m = canon(&room[..n], &mut line);
-    io::write_all(STDOUT_FILENO, &line[..m]);
+    rt.write_all(&line[..m])
 }

@@ -1,8 +1,8 @@
 // Numbers on standard output.
-use libc::STDOUT_FILENO;
+use std::io;
 
 // Writes `before` and the digits of `n`.
-pub fn show_number(before: &[u8], n: u32) {
-    io::write_all(STDOUT_FILENO, before);
-    io::print_decimal(STDOUT_FILENO, n as u64);
+pub fn show_number(rt: &impl Print, before: &[u8], n: u32) -> io::Result<()> {
+    rt.write_all(before)?;
+    print!(rt; "{n}")
 }

@@ -1,11 +1,11 @@
 // What a program says of a comparison.
-use libc::STDOUT_FILENO;
+use std::io;
 
 // Ends a line by `ok` or by `WRONG`.
-pub fn verdict(right: bool) {
+pub fn verdict(rt: &impl Print, right: bool) -> io::Result<()> {
     if right {
-        io::write_all(STDOUT_FILENO, b": ok\n");
+        println!(rt; ": ok")
     } else {
-        io::write_all(STDOUT_FILENO, b": WRONG\n");
+        println!(rt; ": WRONG")
     }
 }

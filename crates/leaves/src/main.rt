@@ -7,85 +7,75 @@ use scan::number::{Number, Written, number_at};
 use scan::space::skip;
 use scan::string::string_at;
 use scan::word::word_at;
+use std::io;
 
-fn show(number: u64, at: usize) {
-    io::print_decimal(1, number);
-    io::write_all(1, b" at ");
-    io::print_decimal(1, at as u64);
-    io::write_all(1, b"\n");
+fn show(rt: &impl Print, number: u64, at: usize) -> io::Result<()> {
+    println!(rt; "{number} at {at}")
 }
 
-fn show_written(w: Written) {
+fn show_written(rt: &impl Print, w: Written) -> io::Result<()> {
     if w.negative {
-        io::write_all(1, b"-");
+        print!(rt; "-")?;
     }
-    io::print_decimal(1, w.coefficient);
-    io::write_all(1, b" less ");
-    io::print_decimal(1, w.fraction);
+    print!(rt; "{} less {}", w.coefficient, w.fraction)?;
     if w.down {
-        io::write_all(1, b" down ");
+        print!(rt; " down ")?;
     } else {
-        io::write_all(1, b" up ");
+        print!(rt; " up ")?;
     }
-    io::print_decimal(1, w.power);
-    io::write_all(1, b": ");
+    print!(rt; "{}: ", w.power)
 }
 
-fn show_number(n: Number) {
+fn show_number(rt: &impl Print, n: Number) -> io::Result<()> {
     match n {
         Number::Decimal(w) => {
-            show_written(w);
-            show(0, w.end);
+            show_written(rt, w)?;
+            show(rt, 0, w.end)
         }
-        Number::Refused(k, p) => {
-            show(k, p);
-        }
+        Number::Refused(k, p) => show(rt, k, p),
     }
 }
 
 // Reads the token that `text` begins with: a string, a number, or one that begins as `null` does; else
 // whitespace.
-fn leaf(text: &[u8]) {
+fn leaf(rt: &impl Print, text: &[u8]) -> io::Result<()> {
     if text.len() == 0 {
-        return;
+        return Ok(());
     }
     let b = text[0];
     if b == b'"' {
         let r = string_at(text, 1);
-        show(r.number, r.at);
-        return;
+        return show(rt, r.number, r.at);
     }
     if b == b'n' {
         let r = word_at(text, 0, b"null");
-        show(r.number, r.at);
-        return;
+        return show(rt, r.number, r.at);
     }
     if opens_number(b) {
-        show_number(number_at(text, 0));
-        return;
+        return show_number(rt, number_at(text, 0));
     }
-    show(0, skip(text, 0));
+    show(rt, 0, skip(text, 0))
 }
 
-fn main() {
-    leaf(b"\"a\\n\\u0061\"");
-    leaf(b"\"abcdefghijklmnopqrstuvwxyz\"x");
-    leaf(b"\"abc");
-    leaf(b"\"\x80");
-    leaf(b"\"\x1f");
-    leaf(b"\"\\x");
-    leaf(b"\"\\u00g0");
-    leaf(b"null,");
-    leaf(b"nul");
-    leaf(b"nulL");
-    leaf(b"-");
-    leaf(b"01");
-    leaf(b"1.5e-998");
-    leaf(b"1.5e-999");
-    leaf(b"10e999");
-    leaf(b"-0e999");
-    leaf(b"123456789012345678");
-    leaf(b"123456789012345678.");
-    leaf(b"1e0000");
-    leaf(b" \t\n\r1");
+fn main(rt: HostRuntime) -> io::Result<()> {
+    leaf(&rt, b"\"a\\n\\u0061\"")?;
+    leaf(&rt, b"\"abcdefghijklmnopqrstuvwxyz\"x")?;
+    leaf(&rt, b"\"abc")?;
+    leaf(&rt, b"\"\x80")?;
+    leaf(&rt, b"\"\x1f")?;
+    leaf(&rt, b"\"\\x")?;
+    leaf(&rt, b"\"\\u00g0")?;
+    leaf(&rt, b"null,")?;
+    leaf(&rt, b"nul")?;
+    leaf(&rt, b"nulL")?;
+    leaf(&rt, b"-")?;
+    leaf(&rt, b"01")?;
+    leaf(&rt, b"1.5e-998")?;
+    leaf(&rt, b"1.5e-999")?;
+    leaf(&rt, b"10e999")?;
+    leaf(&rt, b"-0e999")?;
+    leaf(&rt, b"123456789012345678")?;
+    leaf(&rt, b"123456789012345678.")?;
+    leaf(&rt, b"1e0000")?;
+    leaf(&rt, b" \t\n\r1")
 }

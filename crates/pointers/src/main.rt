@@ -7,6 +7,7 @@ use check::same;
 use console::verdict::verdict;
 use nibrocate::find::find;
 use nibrocate::part::part;
+use std::io;
 
 // The document of RFC 6901 section 5, in one line.
 const DOCUMENT: [u8; 112] =
@@ -19,55 +20,63 @@ const FOO: [u8; 26] = *b"{\"foo\":[\"bar\",\"baz\"],\"\":0}";
 const WORDS: usize = 448;
 
 // Writes the record and the part found, and compares both.
-fn found(text: &[u8], pointer: &[u8], record: u32, value: &[u8]) {
+fn found(
+    rt: &impl Print,
+    text: &[u8],
+    pointer: &[u8],
+    record: u32,
+    value: &[u8],
+) -> io::Result<()> {
     let mut table = [0; WORDS];
     let a = find(text, &mut table, pointer);
     let p = part(text, &mut table, pointer);
-    io::write_all(1, b"'");
-    io::write_all(1, pointer);
-    io::write_all(1, b"' is ");
-    io::print_decimal(1, a.count as u64);
-    io::write_all(1, b", ");
-    io::write_all(1, p);
-    verdict(a.number == 0 && a.count == record && same(p, value));
+    print!(rt; "'")?;
+    rt.write_all(pointer)?;
+    print!(rt; "' is {}, ", a.count)?;
+    rt.write_all(p)?;
+    verdict(rt, a.number == 0 && a.count == record && same(p, value))
 }
 
 // Writes number and place of the refusal, and compares both; the part is empty.
-fn refused(text: &[u8], pointer: &[u8], number: u32, place: u32) {
+fn refused(
+    rt: &impl Print,
+    text: &[u8],
+    pointer: &[u8],
+    number: u32,
+    place: u32,
+) -> io::Result<()> {
     let mut table = [0; WORDS];
     let a = find(text, &mut table, pointer);
     let p = part(text, &mut table, pointer);
-    io::write_all(1, b"'");
-    io::write_all(1, pointer);
-    io::write_all(1, b"' is refused ");
-    io::print_decimal(1, a.number as u64);
-    io::write_all(1, b" at ");
-    io::print_decimal(1, a.place as u64);
-    verdict(a.number == number && a.input == 2 && a.place == place && p.len() == 0);
+    print!(rt; "'")?;
+    rt.write_all(pointer)?;
+    print!(rt; "' is refused {} at {}", a.number, a.place)?;
+    let right = a.number == number && a.input == 2 && a.place == place && p.len() == 0;
+    verdict(rt, right)
 }
 
 // The same in the document.
-fn named(pointer: &[u8], record: u32, value: &[u8]) {
-    found(&DOCUMENT, pointer, record, value);
+fn named(rt: &impl Print, pointer: &[u8], record: u32, value: &[u8]) -> io::Result<()> {
+    found(rt, &DOCUMENT, pointer, record, value)
 }
 
-fn main() {
-    named(b"", 0, &DOCUMENT);
-    named(b"/foo", 1, b"[\"bar\", \"baz\"]");
-    named(b"/foo/0", 2, b"\"bar\"");
-    named(b"/", 4, b"0");
-    named(b"/a~1b", 5, b"1");
-    named(b"/c%d", 6, b"2");
-    named(b"/e^f", 7, b"3");
-    named(b"/g|h", 8, b"4");
-    named(b"/i\\j", 9, b"5");
-    named(b"/k\"l", 10, b"6");
-    named(b"/ ", 11, b"7");
-    named(b"/m~0n", 12, b"8");
-    found(b"{\"/\":1,\"~1\":2}", b"/~01", 2, b"2");
-    found(&FOO, b"/foo/0", 2, b"\"bar\"");
-    found(&FOO, b"/", 4, b"0");
-    refused(&FOO, b"/foo/01", 11, 4);
-    refused(&FOO, b"/~2", 10, 2);
-    refused(&FOO, b"foo", 10, 0);
+fn main(rt: HostRuntime) -> io::Result<()> {
+    named(&rt, b"", 0, &DOCUMENT)?;
+    named(&rt, b"/foo", 1, b"[\"bar\", \"baz\"]")?;
+    named(&rt, b"/foo/0", 2, b"\"bar\"")?;
+    named(&rt, b"/", 4, b"0")?;
+    named(&rt, b"/a~1b", 5, b"1")?;
+    named(&rt, b"/c%d", 6, b"2")?;
+    named(&rt, b"/e^f", 7, b"3")?;
+    named(&rt, b"/g|h", 8, b"4")?;
+    named(&rt, b"/i\\j", 9, b"5")?;
+    named(&rt, b"/k\"l", 10, b"6")?;
+    named(&rt, b"/ ", 11, b"7")?;
+    named(&rt, b"/m~0n", 12, b"8")?;
+    found(&rt, b"{\"/\":1,\"~1\":2}", b"/~01", 2, b"2")?;
+    found(&rt, &FOO, b"/foo/0", 2, b"\"bar\"")?;
+    found(&rt, &FOO, b"/", 4, b"0")?;
+    refused(&rt, &FOO, b"/foo/01", 11, 4)?;
+    refused(&rt, &FOO, b"/~2", 10, 2)?;
+    refused(&rt, &FOO, b"foo", 10, 0)
 }
