@@ -167,7 +167,7 @@ reading_input (Reading.long l) = refl
 reading_input (Reading.narrow l m) = refl
 reading_input (Reading.refused l m v) = refl
 
-ready_stands : {k : ℕ} {t : Bytes} {w w' : Words} {v : Node} → Reading k t w (Read.ready v w') → Stands t w w'
+ready_stands : {k : ℕ} {t : Bytes} {w : Words} {v : Node} {w' : Words} → Reading k t w (Read.ready v w') → Stands t w w'
 ready_stands (Reading.accepted l m x) = Stands.records x
 
 writing_told : {texts : ℕ} {c o o' : Bytes} {a : Answer} → Writing c o a o' → Answers texts OfOutput a
@@ -289,9 +289,11 @@ demand_2 =
 
     ill_formed : {t p : Bytes} {w w' : Words} {q : ℕ} → Finder t w p (refusal 10 2 q) w' → Malformed p q
     ill_formed (Finder.malformed r x) = x
+    ill_formed (Rattle.entries.specs.Entries.stop x3) = elim x3 [ ]
 
     gone : {t p : Bytes} {w w' : Words} {q : ℕ} → Finder t w p (refusal 11 2 q) w' → (v : Node) × (ts : List Token) × Text house t v × Pointer p ts × (resolve ts 0 v ≡ Seen.lost q)
     gone (Finder.lost {v = v} {ts = ts} r x e) = (v, ts, ready_text r, x, e)
+    gone (Rattle.entries.specs.Entries.stop x3) = elim x3 [ ]
 
 pub demand_3 : (t : Bytes) (w : Words) (short : length t ≤ max_text) (wide : record_words * length t ≤ length w) → Demand3 t w short wide
 demand_3 t w short wide =

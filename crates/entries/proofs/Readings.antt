@@ -58,7 +58,7 @@ reading_only {k} {t} {w} (Reading.refused l m v) = fits k t w l m ∙ ap (filled
 reading_only {k} {t} {w} (Reading.accepted l m x) = fits k t w l m ∙ ap (filled k t w) (read_only house_limits t (Verdict.text x))
 
 -- An accepted text is a text, and a refusal has a number.
-pub ready_text : {k : ℕ} {t : Bytes} {w w' : Words} {v : Node} → Reading k t w (Read.ready v w') → Text house t v
+pub ready_text : {k : ℕ} {t : Bytes} {w : Words} {v : Node} {w' : Words} → Reading k t w (Read.ready v w') → Text house t v
 ready_text (Reading.accepted l m x) = x
 
 pub stop_number : {k n i p c : ℕ} {t : Bytes} {w w' : Words} → Reading k t w (Read.stop (Answer.answer n i p c) w') → 0 < n

@@ -63,7 +63,7 @@ merger_length (Merger.stop_patch r s) = (reading_length r, reading_length s, ref
 merger_length (Merger.done r s x y) = (reading_length r, reading_length s, writing_length y)
 
 -- The words that a part is taken from are the two offsets of the found value, which has a byte and lies inside the text.
-found_part : {t : Bytes} {w w' : Words} {v u : Node} {n : ℕ} (ts : List Token) → Reading 1 t w (Read.ready v w') → resolve ts 0 v ≡ Seen.found n u
+found_part : {t : Bytes} {w : Words} {v : Node} {w' : Words} {u : Node} {n : ℕ} (ts : List Token) → Reading 1 t w (Read.ready v w') → resolve ts 0 v ≡ Seen.found n u
     → (get_or w' (record_words * n) 0 ≡ start u) × (get_or w' (suc (record_words * n)) 0 ≡ end u) × (start u < end u) × (end u ≤ length t)
 found_part {t} {w} {u = u} {n = n} ts (Reading.accepted {v = v} l m x) e =
     let rest : Words = drop (length (table v)) w in

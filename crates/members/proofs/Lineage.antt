@@ -67,7 +67,7 @@ module _ {w : Words} {end : ℕ} where
       let o = siblings_onward q (omega (arith, h, siblings_end s)) in
       ap (λ (k : List ℕ). r ∷ k) (siblings_unique s o.siblings) ∙ sym o.split
 
-pub siblings_append : {w : Words} {first middle end : ℕ} {a b : List ℕ} → Siblings w middle first a → Siblings w end middle b
+pub siblings_append : {w : Words} {middle first end : ℕ} {a b : List ℕ} → Siblings w middle first a → Siblings w end middle b
     → Siblings w end first (a ++ b)
 siblings_append Siblings.none q = q
 siblings_append (Siblings.more h s) q = Siblings.more h (siblings_append s q)

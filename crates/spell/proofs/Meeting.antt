@@ -57,6 +57,7 @@ module _ (f : Judge) where
 -- Behind a value that no container holds stands whitespace only, so that value is the whole text's.
 stays : {C : Ceilings} {v : Node} {t : Bool} {s : State} → Took C (Move.when t (Move.go (State.after [] v)) Move.bad) s → s ≡ State.after [] v
 stays (Took.yes p Took.go) = refl
+stays (Took.no _ x12) = elim x12 [ ]
 
 value_stays : {C : Ceilings} {s : State} {n : ℕ} {t : Bytes} {a : Outcome} {v u : Node} → Run C s n t a → s ≡ State.after [] v → a ≡ Outcome.accepted u → v ≡ u
 unfolding move after_move

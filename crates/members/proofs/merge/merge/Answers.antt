@@ -23,7 +23,7 @@ pub overflow_sub-i : goal.overflow_sub-i
 overflow_sub-i c = omega (arith, (first_goes _ c.requires.1 c.loop-i.invariant _ c.pick.ensures.picked c.if-pick.true).0)
 
 pub loop-i-smaller-then-pick : goal.loop-i-smaller-then-pick
-loop-i-smaller-then-pick c = omega (arith, sub-i c)
+loop-i-smaller-then-pick c = omega (arith, overflow_sub-i c)
 
 pub loop-i-preserved-then-pick : goal.loop-i-preserved-then-pick
 loop-i-preserved-then-pick c = first_gone _ c.requires.1 c.loop-i.invariant _ c.pick.ensures.picked _ _ _ _ _ _ c.if-pick.true c.relink-z.ensures.linked c.relink-z.ensures.followed refl refl refl refl
@@ -35,7 +35,7 @@ pub overflow_sub-j : goal.overflow_sub-j
 overflow_sub-j c = omega (arith, (second_goes _ c.requires.1 c.loop-i.invariant _ c.pick.ensures.picked c.if-pick.false).0)
 
 pub loop-i-smaller : goal.loop-i-smaller
-loop-i-smaller c = omega (arith, sub-j c)
+loop-i-smaller c = omega (arith, overflow_sub-j c)
 
 pub loop-i-preserved : goal.loop-i-preserved
 loop-i-preserved c = second_gone _ c.requires.1 c.loop-i.invariant _ c.pick.ensures.picked _ _ _ _ _ _ c.if-pick.false c.relink-z-else-pick.ensures.linked refl refl c.relink-z-else-pick.ensures.followed refl refl
