@@ -4,7 +4,7 @@
 
 ghost use Rattle.std.specs.Prelude.{◌*◌, ◌<◌, length, take};
 ghost use Rattle.console.specs.Programs.{Apply, longest};
-ghost use Rattle.io.specs.Counts.{IsPrefixLen};
+ghost use Rattle.console.specs.Counts.{IsPrefixLen};
 
 use console::file::read_file;
 use console::line::put_refused_in;

@@ -3,7 +3,7 @@
 
 ghost use Rattle.std.specs.Prelude.{◌*◌, ◌<◌, length, take};
 ghost use Rattle.console.specs.Programs.{Canon, longest};
-ghost use Rattle.io.specs.Counts.{IsPrefixLen};
+ghost use Rattle.console.specs.Counts.{IsPrefixLen};
 
 use console::file::read_full;
 use console::line::put_refused_at;

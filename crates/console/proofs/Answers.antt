@@ -5,7 +5,7 @@ use Rattle.console.specs.Programs.{Apply, Canon, Judged, feed, longest, refused_
 use Rattle.entries.proofs.Readings.{ready_text, stop_number}
 use Rattle.entries.specs.Answer.{Answer, Read, Reading, Writing, over, success}
 use Rattle.entries.specs.Entries.{Merger, Reader, Writer}
-use Rattle.io.specs.Counts.{IsPrefixLen}
+use Rattle.console.specs.Counts.{IsPrefixLen}
 use Rattle.meaning.proofs.Demand2.{merge_six_times, six_times}
 use Rattle.spell.proofs.Putting.{put_byte, put_length}
 use Rattle.spell.specs.Puts.{Puts}

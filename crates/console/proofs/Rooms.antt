@@ -2,7 +2,7 @@
 use Prim.Native.Nat.{◌<◌, ◌^◌, ◌≤◌, ℕ}
 use Rattle.console.specs.Parts.{refusal_room}
 use Rattle.console.specs.Programs.{decimal, refused_at, refused_in}
-use Rattle.io.specs.Counts.{IsPrefixLen}
+use Rattle.console.specs.Counts.{IsPrefixLen}
 use Rattle.meaning.proofs.NumberLength.{digits_most}
 use Rattle.meaning.specs.Canonical.{put_digits}
 use Rattle.spell.proofs.Widths.{width}

@@ -1,6 +1,6 @@
 // Texts in files, and from any other reader.
 ghost use Rattle.std.specs.Prelude.{take};
-ghost use Rattle.io.specs.Counts.{IsPrefixLen};
+ghost use Rattle.console.specs.Counts.{IsPrefixLen};
 ghost use Rattle.std.specs.Io.KnownBytes.{Consumes};
 
 use crate::ROOM;

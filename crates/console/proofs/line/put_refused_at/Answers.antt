@@ -1,0 +1,33 @@
+-- The number behind its word, and the place.
+use Prim.Native.Nat.{◌≤◌, ℕ}
+use Rattle.console.proofs.Rooms.{at_room}
+use Rattle.console.specs.Parts.{numbered, placed, refusal_room}
+use Rattle.console.specs.Programs.{refused_at}
+use Rattle.spell.proofs.Joining.{Joined, both_put, first_fits, second_fits, second_start}
+use Rattle.text.specs.Bytes.{Bytes, ascii}
+use lib.ListN.{length}
+use mathlib.Core.List.{append_assoc}
+use native.Mathlib.Omega.{arith}
+use Rattle.console.proofs.line.put_refused_at.Goals as goal
+
+joined : (n p : ℕ) (o : Bytes) → refusal_room ≤ length o → Joined (refused_at n p) (numbered (ascii "refused ") n) (placed p) o
+unfolding refused_at placed
+joined n p o h = record { whole = simp append_assoc; room = at_room n p h }
+
+pub put_numbered-n-requires : goal.put_numbered-n-requires
+put_numbered-n-requires c = first_fits (joined c.args.number c.args.place c.args.out.now c.requires)
+
+pub slice_bounds-put_place-count : goal.slice_bounds-put_place-count
+slice_bounds-put_place-count c = second_start (joined c.args.number c.args.place c.args.out.now c.requires) c.put_numbered-n.ensures.put
+
+pub slice_bounds-put_place-start : goal.slice_bounds-put_place-start
+slice_bounds-put_place-start c = slice_bounds-put_place-count c
+
+pub put_place-requires : goal.put_place-requires
+put_place-requires c = second_fits (joined c.args.number c.args.place c.args.out.now c.requires) c.put_numbered-n.ensures.put
+
+pub returns : goal.returns
+returns c = record { put = both_put (joined c.args.number c.args.place c.args.out.now c.requires) c.put_numbered-n.ensures.put c.put_place.ensures.put }
+
+pub overflow_add-result : goal.overflow_add-result
+overflow_add-result c = omega (arith, (returns c).put.count, (joined c.args.number c.args.place c.args.out.now c.requires).room)
