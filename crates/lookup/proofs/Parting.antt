@@ -18,7 +18,7 @@ use mathlib.Core.Path.{◌∙◌, ◌≡◌, ap, subst, subst⁻¹}
 use native.Mathlib.Omega.{arith}
 
 -- The table has its record.
-ready_room : {t : Bytes} {w w' : Words} {v : Node} {n : ℕ} → Reading 1 t w (Read.ready v w') → n < size v → 4 * n + 4 ≤ length w'
+ready_room : {t : Bytes} {w : Words} {v : Node} {w' : Words} {n : ℕ} → Reading 1 t w (Read.ready v w') → n < size v → 4 * n + 4 ≤ length w'
 ready_room {w = w} {v = v} (Reading.accepted l m x) h = omega (arith, length-append (table v) (drop (length (table v)) w), table_length v)
 
 found_room : {t p : Bytes} {w w' : Words} {n : ℕ} → Finder t w p (entry.success n) w' → 4 * n + 4 ≤ length w'

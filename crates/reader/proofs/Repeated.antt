@@ -21,6 +21,7 @@ use native.Mathlib.Omega.{arith}
 pub rising_below : {es : List ℕ} {b x : ℕ} → Rising es b → In x es → x < b
 rising_below (Rising.more h f r) In.here = h
 rising_below (Rising.more h f r) (In.there p) = rising_below r p
+rising_below (Rising.none) x8 = elim x8 [ ]
 
 pub rising_on : {es : List ℕ} {b c : ℕ} → b ≤ c → Rising es b → Rising es c
 rising_on l Rising.none = Rising.none
@@ -33,6 +34,7 @@ rising_one {b = b} {c = c} {q = q} (Rising.more {q = p} {qs = qs} k f r) h l = R
     by : (x : ℕ) → In x qs ⊎ In x (q ∷ []) → p < x
     by x (inl i) = f x i
     by x (inr In.here) = omega arith
+    by x (inr (In.there x8)) = elim x8 [ ]
 
 pub rising_again : {es : List ℕ} {b c q : ℕ} (us : Units) (ns : List Units) → Rising es b → b ≤ q → q < c → Rising (es ++ again us ns q) c
 unfolding again
@@ -118,6 +120,7 @@ inside_split (Members.member q us v ms) i = by (λ j. inside_split ms j) (in_eit
         → In x (deeper ms ++ repeats v) ⊎ In x (own ms ++ again us (names_of ms) q)
     by f (inl j) = further (f j)
     by f (inr j) = own_or (in_either (again us (names_of ms) q) j)
+inside_split Members.empty i = elim i [ ]
 
 deeper_inside : {x : ℕ} (ms : Members) → In x (deeper ms) → In x (inside_members ms)
 unfolding inside_members deeper
@@ -126,6 +129,7 @@ deeper_inside (Members.member q us v ms) i = by (λ j. deeper_inside ms j) (in_e
     by : {x : ℕ} → (In x (deeper ms) → In x (inside_members ms)) → In x (deeper ms) ⊎ In x (repeats v) → In x (inside_members ms ++ (again us (names_of ms) q ++ repeats v))
     by f (inl j) = in_left (again us (names_of ms) q ++ repeats v) (f j)
     by f (inr j) = in_right (inside_members ms) (in_right (again us (names_of ms) q) j)
+deeper_inside Members.empty i = elim i [ ]
 
 own_inside : {x : ℕ} (ms : Members) → In x (own ms) → In x (inside_members ms)
 unfolding inside_members own
@@ -134,6 +138,7 @@ own_inside (Members.member q us v ms) i = by (λ j. own_inside ms j) (in_either 
     by : {x : ℕ} → (In x (own ms) → In x (inside_members ms)) → In x (own ms) ⊎ In x (again us (names_of ms) q) → In x (inside_members ms ++ (again us (names_of ms) q ++ repeats v))
     by f (inl j) = in_left (again us (names_of ms) q ++ repeats v) (f j)
     by f (inr j) = in_right (inside_members ms) (in_left (repeats v) j)
+own_inside Members.empty i = elim i [ ]
 
 -- So the least of all is the lesser of the least among the closed ones and the least of the object's own.
 pub object_least : (l : List ℕ) (ms : Members) {a b c : ℕ} → Lesser a b c → Least (l ++ deeper ms) a → Least (own ms) b → Least (l ++ inside_members ms) c

@@ -63,6 +63,7 @@ named_append w (x ∷ l) m = ap (λ n. word w x 2 ∷ n) (named_append w l m)
 quotes_below : {t : Bytes} {ms : Members} {b x : ℕ} → Spelt t ms b → In x (quotes ms) → x < b
 unfolding quotes
 quotes_below (Spelt.member {ms = ms} c _ _ s) i = ⊎_elim (λ j. omega (arith, quotes_below s j, c.before)) (λ j. omega (arith, in_single j, c.before)) (in_either (quotes ms) i)
+quotes_below (Spelt.empty) i = elim i [ ]
 
 -- The records of members whose words begin at record `k`.
 pub record Kin (t : Bytes) (w : Words) (ms : Members) (k : ℕ) : Type 0 where
@@ -150,6 +151,7 @@ among_quote {t} us (Spelt.member {q = q} {us = vs} {ms = ms} c _ _ s) p = either
 
     later : (y : ℕ) × In y (quotes ms) × (name_at t y ≡ us) → (y : ℕ) × In y (quotes ms ++ (q ∷ [])) × (name_at t y ≡ us)
     later (y, i, e) = (y, in_left (q ∷ []) i, e)
+among_quote us (Spelt.empty) p = elim p [ ]
 
 quote_among : {t : Bytes} {ms : Members} {b y : ℕ} (us : Units) → Spelt t ms b → In y (quotes ms) → name_at t y ≡ us → T (among us (names_of ms))
 unfolding names_of quotes
@@ -159,6 +161,7 @@ quote_among {t} us (Spelt.member {q = q} {us = vs} {ms = ms} c _ _ s) i e = by (
     by f (inl j) g = among_later us vs (names_of ms) (f j)
     by f (inr In.here) g = subst (λ n. T (among us (n ∷ names_of ms))) (sym g ∙ c.means) (among_first us (names_of ms))
     by f (inr (In.there j)) g = absurd (in_none j)
+quote_among us (Spelt.empty) i e = elim i [ ]
 
 again_in : {x : ℕ} (us : Units) (ns : List Units) (q : ℕ) → In x (again us ns q) → (x ≡ q) × T (among us ns)
 unfolding again
@@ -192,6 +195,7 @@ own_twice {t} (Spelt.member {q = q} {us = us} {v = v} {ms = ms} c _ _ s) i = by 
     by : {x : ℕ} → (In x (own ms) → Twice t ms x) → In x (own ms) ⊎ In x (again us (names_of ms) q) → Twice t (Members.member q us v ms) x
     by f (inl j) = wider (f j)
     by {x} f (inr j) = let (e, p) = again_in us (names_of ms) q j in last x e p
+own_twice (Spelt.empty) i = elim i [ ]
 
 twice_own : {t : Bytes} {ms : Members} {b x y : ℕ} → Spelt t ms b → In x (quotes ms) → In y (quotes ms) → y < x → name_at t y ≡ name_at t x → In x (own ms)
 unfolding own quotes
@@ -205,6 +209,7 @@ twice_own {t} (Spelt.member {q = q} {us = us} {ms = ms} c _ _ s) i j l e = by (�
     by f l e (inr In.here) (inr In.here) = absurd (omega (arith, l))
     by f l e (inr In.here) (inr (In.there j)) = absurd (in_none j)
     by f l e (inr (In.there i)) j = absurd (in_none i)
+twice_own (Spelt.empty) i j l e = elim i [ ]
 
 pub own_least : {t : Bytes} {ms : Members} {b q : ℕ} → Spelt t ms b → FirstRepeat t (quotes ms) q → Least (own ms) q
 own_least {t} {ms} {q = q} s r =

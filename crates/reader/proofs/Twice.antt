@@ -9,7 +9,7 @@ use Rattle.text.specs.Bytes.{Units}
 use Rattle.text.specs.Ceilings.{among}
 use Rattle.text.specs.Node.{Members, Node, Nodes}
 use lib.Dec.{T}
-use mathlib.Core.Bool.{Bool, cond, true}
+use mathlib.Core.Bool.{Bool, cond, false, true}
 use mathlib.Core.List.{List, [], ◌++◌, ◌∷◌}
 use mathlib.Core.Logic.{◌↔◌, ⊎_elim}
 
@@ -24,6 +24,8 @@ module _ {q : ℕ} where
     where
       by : {k : ℕ} (a : Bool) → (T a → T (among us ns)) → In q (cond a (k ∷ []) []) → Again q us ns k
       by true f In.here = Again.yes (f tt)
+      by false f x'' = elim x'' [ ]
+      by true f (In.there x6) = elim x6 [ ]
 
   is_again : (us : Units) (ns : List Units) → T (among us ns) → In q (again us ns q)
   unfolding again
@@ -68,13 +70,18 @@ module _ {q : ℕ} where
     from_twice : (v : Node) {us : Units} → Twice q us v → In q (repeats v)
     from_twice (Node.array a e vs) (Twice.array t) = from_all vs t
     from_twice (Node.object a e ms) (Twice.object t) = from_members ms t
+    from_twice (Node.literal _ _ _) x6 = elim x6 [ ]
+    from_twice (Node.string _ _ _) x7 = elim x7 [ ]
+    from_twice (Node.number _ _ _) x8 = elim x8 [ ]
 
     from_all : (vs : Nodes) {us : Units} → TwiceAll q us vs → In q (repeats_all vs)
     from_all (Nodes.cons v vs) (TwiceAll.first t) = in_left (repeats_all vs) (from_twice v t)
     from_all (Nodes.cons v vs) (TwiceAll.next t) = in_right (repeats v) (from_all vs t)
+    from_all Nodes.nil x3 = elim x3 [ ]
 
     from_members : (ms : Members) {us : Units} {ns : List Units} → TwiceMembers q us ns ms → In q (repeats_members ns ms)
     from_members (Members.member k n v ms) t = in_member (λ x. from_twice v x) (λ x. from_members ms x) t
+    from_members Members.empty t = elim t [ ]
 
 pub repeats_twice : (q : ℕ) (v : Node) → In q (repeats v) ↔ ((us : Units) × Twice q us v)
 repeats_twice q v = (to_twice v, λ (us, t). from_twice v t)

@@ -204,5 +204,5 @@ text_held {t} w {v} h l (Text.text x e) =
     value_held t (over (table v) w) h x (At.at refl) (text_inside (Text.text x e)) unnamed 0 (has_front (table v) (drop (length (table v)) w))
     (omega arith, omega (arith, length-append (table v) (drop (length (table v)) w), length-drop (length (table v)) w, table_length v))
 
-pub reading_held : {k : ℕ} {t : Bytes} {w w' : Words} {v : Node} → Reading k t w (Read.ready v w') → Held t w' 0 v
+pub reading_held : {k : ℕ} {t : Bytes} {w : Words} {v : Node} {w' : Words} → Reading k t w (Read.ready v w') → Held t w' 0 v
 reading_held {w = w} (Reading.accepted l m x) = text_held w l m x

@@ -49,19 +49,22 @@ pub place_of : {t : Bytes} {w : Words} {k x : ℕ} {cs : List Child} → HeldAll
 unfolding places
 place_of (HeldAll.more {v = v} h u e y) In.here = record { value = v; held = h; unlinked = u }
 place_of (HeldAll.more h u e y) (In.there i) = let p = place_of y i in record { value = p.value; held = p.held; unlinked = p.unlinked }
+place_of (Rattle.values.specs.Held.none) x7 = elim x7 [ ]
 
 -- Word 2 of a member is its name's opening quote, which rise.
 quotes_from : {t : Bytes} {w : Words} {k b x : ℕ} {ms : Members} → Spelt t b ms → HeldAll t w k (members ms) → In x (places k (members ms)) → (b ≤ word w x 2) × (word w x 2 < length t) × (word w x 2 < unnamed)
 unfolding places members
 quotes_from (Spelt.more l m c n s) (HeldAll.more h u e y) In.here = (omega (arith, e), omega (arith, e), omega (arith, e))
-quotes_from (Spelt.more l m c n s) (HeldAll.more h u e y) (In.there i) = let (a, b, c) = quotes_from s y i in (omega arith, b, c)
+quotes_from {k = k} (Spelt.more l m c n s) (HeldAll.more {v = v} h u e y) (In.there i) = let (a, b, c) = quotes_from {k = k + size v} s y i in (omega arith, b, c)
+quotes_from (Rattle.values.specs.Held.none) _ x11 = elim x11 [ ]
 
 quotes_rise : {t : Bytes} {w : Words} {k b x y : ℕ} {ms : Members} → Spelt t b ms → HeldAll t w k (members ms) → In x (places k (members ms)) → In y (places k (members ms)) → x < y → word w x 2 < word w y 2
 unfolding places members
 quotes_rise (Spelt.more l m c n s) (HeldAll.more h u e z) In.here In.here o = absurd (omega arith)
 quotes_rise (Spelt.more l m c n s) (HeldAll.more h u e z) In.here (In.there j) o = omega (arith, e, quotes_from s z j)
 quotes_rise (Spelt.more l m c n s) (HeldAll.more {v = v} h u e z) (In.there i) In.here o = absurd (omega (arith, siblings_between (held_siblings z) i, size_some v))
-quotes_rise (Spelt.more l m c n s) (HeldAll.more h u e z) (In.there i) (In.there j) o = quotes_rise s z i j o
+quotes_rise {k = k} (Spelt.more l m c n s) (HeldAll.more {v = v} h u e z) (In.there i) (In.there j) o = quotes_rise {k = k + size v} s z i j o
+quotes_rise (Rattle.values.specs.Held.none) _ x17 _ o = elim x17 [ ]
 
 pub quote_inside : {t : Bytes} {w : Words} {k x : ℕ} {ms : Members} → Spelt t 0 ms → HeldAll t w k (members ms) → In x (places k (members ms)) → (word w x 2 < length t) × (word w x 2 < unnamed)
 quote_inside s y i = let (a, b, c) = quotes_from s y i in (b, c)

@@ -60,3 +60,4 @@ inside_none (HeldAll.more h u e y) In.here a b In.here = omega arith
 inside_none (HeldAll.more h u e y) In.here a b (In.there j) = omega (arith, siblings_between (held_siblings y) j, held_record h)
 inside_none (HeldAll.more {v = v} h u e y) (In.there i) a b In.here = omega (arith, siblings_between (held_siblings y) i, size_some v)
 inside_none (HeldAll.more h u e y) (In.there i) a b (In.there j) = inside_none y i a b j
+inside_none (HeldAll.none) x16 a b _ = elim x16 [ ]

@@ -1,0 +1,21 @@
+-- The units before `i` and `j` are the same, and decide nothing.
+use Rattle.lookup.proofs.Reading.{units_equal, units_other, units_same}
+use mathlib.Core.Path.{◌∙◌, refl, sym}
+use Prim.Native.Nat.{◌-◌}
+use native.Mathlib.Omega.{arith}
+use Rattle.lookup.proofs.token.same_name.Goals as goal
+
+pub loop-x-init : goal.loop-x-init
+loop-x-init c = refl
+
+pub returns-then-p-q : goal.returns-then-p-q
+returns-then-p-q c = units_other c.unit_at-x.ensures.step c.token_unit-y.ensures.step c.if-p-q.true ∙ sym c.loop-x.invariant
+
+pub returns-then-p-eq-END : goal.returns-then-p-eq-END
+returns-then-p-eq-END c = units_equal c.unit_at-x.ensures.step c.token_unit-y.ensures.step c.if-p-q.false c.if-p-eq-END.true ∙ sym c.loop-x.invariant
+
+pub loop-x-smaller : goal.loop-x-smaller
+loop-x-smaller c = let (e, h, k, l) = c.unit_at-x.ensures.step.some c.if-p-eq-END.false in omega arith
+
+pub loop-x-preserved : goal.loop-x-preserved
+loop-x-preserved c = c.loop-x.invariant ∙ units_same c.unit_at-x.ensures.step c.token_unit-y.ensures.step c.if-p-q.false c.if-p-eq-END.false
