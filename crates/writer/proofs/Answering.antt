@@ -28,7 +28,7 @@ pub record Accepted (t : Bytes) (w w' : Words) : Type 0 where
   pub small : length (text_of value) ≤ 6 * length t
 
 -- What was read is no longer than the ceiling.
-pub read_short : {k : ℕ} {t : Bytes} {w w' : Words} {v : Node} → Reading k t w (Read.ready v w') → length t ≤ max_text
+pub read_short : {k : ℕ} {t : Bytes} {w : Words} {v : Node} {w' : Words} → Reading k t w (Read.ready v w') → length t ≤ max_text
 read_short (Reading.accepted l m x) = l
 
 taken : {t : Bytes} {w w' : Words} (v : Node) → Reading 1 t w (Read.ready v w') → Accepted t w w'

@@ -19,7 +19,7 @@ use Rattle.members.specs.Siblings.{Siblings}
 use Rattle.spell.specs.Scalars.{quoted}
 use Rattle.text.specs.Bytes.{Bytes, Units}
 use Rattle.text.specs.Node.{Members, Nodes}
-use Rattle.text.specs.Table.{Words, unnamed}
+use Rattle.text.specs.Table.{Words, unnamed, size}
 use Rattle.values.proofs.Kin.{held_record, held_siblings, members_row, members_size, place_of, quote_inside}
 use Rattle.values.proofs.Linked.{held_stays, inside_none}
 use Rattle.values.specs.Children.{Child, elements, members, places, sizes}
@@ -134,7 +134,8 @@ module _ (t : Bytes) (w u : Words) (d r n x : ℕ) (ms : Members) (s : Spelt t 0
 elements_unnamed : {t : Bytes} {w : Words} {k x : ℕ} (vs : Nodes) → HeldAll t w k (elements vs) → In x (places k (elements vs)) → word w x 2 ≡ unnamed
 unfolding elements places
 elements_unnamed (Nodes.cons v vs) (HeldAll.more h u e y) In.here = e
-elements_unnamed (Nodes.cons v vs) (HeldAll.more h u e y) (In.there i) = elements_unnamed vs y i
+elements_unnamed {k = k} (Nodes.cons v vs) (HeldAll.more h u e y) (In.there i) = elements_unnamed {k = k + size v} vs y i
+elements_unnamed Nodes.nil _ x4 = elim x4 [ ]
 
 inner_trees : {d : ℕ} {ts : Trees} → Keeps d (Tree.array ts) → KeepsAll (suc d) ts
 inner_trees (Keeps.array l z) = z

@@ -48,7 +48,7 @@ module _ (name : ℕ → Units) (value : ℕ → Tree) where
   abbrev pub Distinct : List ℕ → Type 0
   Distinct l = (x y : ℕ) → In x l → In y l → name x ≡ name y → x ≡ y
 
-  pub at_found : {l : List ℕ} {x : ℕ} → Distinct l → In x l → at (pairs_of name value l) (name x) ≡ Maybe.some (mean (value x))
+  pub at_found : {x : ℕ} {l : List ℕ} → Distinct l → In x l → at (pairs_of name value l) (name x) ≡ Maybe.some (mean (value x))
   unfolding pairs_of
   at_found {x = x} d (In.here {l = l}) = at_it (name x) (value x) (pairs_of name value l) (name x) refl
   at_found {x = x} d (In.there {y = y} {l = l} i) = by (which (name x) (name y)) (at_found (λ a b j k. d a b (In.there j) (In.there k)) i)

@@ -48,7 +48,8 @@ tree_first q v cs k = ap (λ b. elim b as (λ _. Tree) [ true ↦ canon (tree v)
 places_above : {k x : ℕ} (cs : List Child) → In x (places k cs) → k ≤ x
 unfolding places
 places_above (Child.child q v ∷ cs) In.here = omega arith
-places_above (Child.child q v ∷ cs) (In.there i) = omega (arith, places_above cs i)
+places_above {k = k} (Child.child q v ∷ cs) (In.there i) = omega (arith, places_above {k = k + size v} cs i)
+places_above [] x'' = elim x'' [ ]
 
 tree_later : {x : ℕ} (k q : ℕ) (v : Node) (cs : List Child) → In x (places (k + size v) cs) → tree_at (Child.child q v ∷ cs) k x ≡ tree_at cs (k + size v) x
 unfolding tree_at
@@ -68,6 +69,7 @@ inner (HeldAll.more {k = k} {q = q} {v = v} {cs = cs} h u e y) (KeepsEach.more z
 inner (HeldAll.more {k = k} {q = q} {v = v} {cs = cs} h u e y) (KeepsEach.more z zs) (In.there i) =
     let p = inner y zs i in
     record { value = p.value; held = p.held; keeps = p.keeps; sorted = tree_later k q v cs i ∙ p.sorted }
+inner (HeldAll.none) _ x11 = elim x11 [ ]
 
 -- An array's values in order.
 trees_same : (f g : ℕ → Tree) (l : List ℕ) → ((x : ℕ) → In x l → f x ≡ g x) → trees_of f l ≡ trees_of g l
@@ -101,17 +103,18 @@ module _ (t : Bytes) (w : Words) where
       ap (λ ps. at (Pairs.pair (name_of t w k) (tree_at (Child.child q v ∷ members ms) k k) ps) j)
       (pairs_same (name_of t w) _ (tree_at (members ms) (k + size v)) (places (k + size v) (members ms)) (λ x i. tree_later k q v (members ms) i))
       ∙ ap (λ i. at (Pairs.pair i (tree_at (Child.child q v ∷ members ms) k k) (pairs_of (name_of t w) (tree_at (members ms) (k + size v)) (places (k + size v) (members ms)))) j) (name_of_lem k e n)
-      ∙ at_under us _ (tree v) _ (pairs ms) j (ap mean (tree_first q v (members ms) k) ∙ mean_canon x) (object_means s y z j)
+      ∙ at_under us _ (tree v) _ (pairs ms) j (ap mean (tree_first q v (members ms) k) ∙ mean_canon x) (object_means {k = k + size v} s y z j)
 
   -- No two of them have one name.
   named_some : {k b x : ℕ} {ms : Members} → Spelt t b ms → HeldAll t w k (members ms) → In x (places k (members ms)) → (m : Meaning) × (at (pairs ms) (name_of t w x) ≡ Maybe.some m)
   unfolding members places pairs
   named_some {k = k} (Spelt.more {us = us} {v = v} {ms = ms} l m c n s) (HeldAll.more h u e y) In.here = (mean (tree v), at_it us (tree v) (pairs ms) _ (name_of_lem k e n))
-  named_some {x = x} (Spelt.more {us = us} {v = v} {ms = ms} l m c n s) (HeldAll.more h u e y) (In.there i) = by (which (name_of t w x) us) (named_some s y i)
+  named_some {k = k} {x = x} (Spelt.more {us = us} {v = v} {ms = ms} l m c n s) (HeldAll.more h u e y) (In.there i) = by (which (name_of t w x) us) (named_some {k = k + size v} s y i)
     where
       by : Which (name_of t w x) us → (m : Meaning) × (at (pairs ms) (name_of t w x) ≡ Maybe.some m) → (m : Meaning) × (at (Pairs.pair us (tree v) (pairs ms)) (name_of t w x) ≡ Maybe.some m)
       by (Which.it p) r = (mean (tree v), at_it us (tree v) (pairs ms) (name_of t w x) p)
       by (Which.other p) (m, f) = (m, at_other us (tree v) (pairs ms) (name_of t w x) p ∙ f)
+  named_some (Spelt.none) _ x11 = elim x11 [ ]
 
   pub names_distinct : {d k b : ℕ} {ms : Members} → Spelt t b ms → HeldAll t w k (members ms) → KeepsPairs d (pairs ms) → (x y : ℕ) → In x (places k (members ms)) → In y (places k (members ms)) → name_of t w x ≡ name_of t w y → x ≡ y
   unfolding members places pairs
@@ -120,4 +123,5 @@ module _ (t : Bytes) (w : Words) where
       let (_, i) = named_some s r j in absurd (some_none (sym i ∙ ap (at (pairs ms)) (sym g ∙ name_of_lem k e n) ∙ f))
   names_distinct {k = k} (Spelt.more {ms = ms} l m c n s) (HeldAll.more h u e r) (KeepsPairs.pair a f p z) x y (In.there i) In.here g =
       let (_, j) = named_some s r i in absurd (some_none (sym j ∙ ap (at (pairs ms)) (g ∙ name_of_lem k e n) ∙ f))
-  names_distinct (Spelt.more l m c n s) (HeldAll.more h u e r) (KeepsPairs.pair a f p z) x y (In.there i) (In.there j) g = names_distinct s r z x y i j g
+  names_distinct {k = k} (Spelt.more {v = v} l m c n s) (HeldAll.more h u e r) (KeepsPairs.pair a f p z) x y (In.there i) (In.there j) g = names_distinct {k = k + size v} s r z x y i j g
+  names_distinct (Spelt.none) _ _ x y x22 _ g = elim x22 [ ]

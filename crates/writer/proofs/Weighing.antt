@@ -68,13 +68,13 @@ module _ {t : Bytes} {w : Words} {end : ℕ} where
   unfolding elements size
   elements_first {k} Nodes.nil h p = moved (add-zero k) p
   elements_first {k} (Nodes.cons v vs) (HeldAll.more h u e hs) p =
-      Pending.more h e (λ n. absurd (n refl)) (elements_first vs hs (moved (sym (add_assoc k (size v) (size_all vs))) p))
+      Pending.more h e (λ n. absurd (n refl)) (elements_first {k = k + size v} vs hs (moved (sym (add_assoc k (size v) (size_all vs))) p))
 
   members_first : {b k : ℕ} {cs : List Child} (ms : Members) → Spelt t b ms → HeldAll t w k (members ms) → Pending t w end (k + size_members ms) cs → Pending t w end k (members ms ++ cs)
   unfolding members size
   members_first {k = k} Members.empty s h p = moved (add-zero k) p
-  members_first {k = k} (Members.member q us v ms) (Spelt.more a l b f s) (HeldAll.more h u e hs) p =
-      Pending.more h e (λ n. l) (members_first ms s hs (moved (sym (add_assoc k (size v) (size_members ms))) p))
+  members_first {b = b'} {k = k} (Members.member q us v ms) (Spelt.more a l b f s) (HeldAll.more h u e hs) p =
+      Pending.more h e (λ n. l) (members_first {b = suc q} {k = k + size v} ms s hs (moved (sym (add_assoc k (size v) (size_members ms))) p))
 
   children_first : {k : ℕ} {v : Node} {cs : List Child} → Held t w k v → Pending t w end (k + size v) cs → Pending t w end (k + 1) (children v ++ cs)
   unfolding children size
