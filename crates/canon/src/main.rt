@@ -35,7 +35,8 @@ fn canon(text: &[u8], line: &mut [u8]) -> usize
 
 fn main(rt: HostRuntime) -> io::Result<()> {
     let mut room = [0; ROOM];
-    let n = read_full(&mut rt.stdin(), &mut room);
+    // A read that fails ends the text.
+    let (n, _) = read_full(&mut rt.stdin(), &mut room);
     let mut line = [0; LINE];
     let m = canon(&room[..n], &mut line);
     rt.write_all(&line[..m])
