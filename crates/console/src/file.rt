@@ -40,3 +40,56 @@ pub fn read_full<R: Read>(reader: &mut R, buf: &mut [u8]) -> (usize, io::Result<
     }
     (done, Ok(()))
 }
+
+#[cfg(test)]
+mod tests {
+    use super::*;
+    use std::io::{Error, ErrorKind};
+
+    // Gives `left` bytes, one at each read, and then fails.
+    #[derive(Drop)]
+    struct Breaking {
+        left: u8,
+    }
+
+    impl Read for Breaking {
+        fn read(&mut self, buf: &mut [u8]) -> io::Result<usize> {
+            if self.left == 0 {
+                return Err(Error::from(ErrorKind::TimedOut));
+            }
+            if buf.len() == 0 {
+                return Ok(0);
+            }
+            buf[0] = self.left;
+            self.left -= 1;
+            Ok(1)
+        }
+    }
+
+    // What stood in the buffer stays behind what was read.
+    #[test]
+    fn keeps_what_was_read_before_a_failure(rt: HostRuntime) {
+        let mut buf = [9; 5];
+        let (n, end) = read_full(&mut Breaking { left: 3 }, &mut buf);
+        assert_eq!(rt; n, 3);
+        assert_eq!(rt; buf, [3, 2, 1, 9, 9]);
+        assert!(rt; end.is_err());
+    }
+
+    #[test]
+    fn stops_at_a_full_buffer(rt: HostRuntime) {
+        let mut buf = [9; 5];
+        let (n, end) = read_full(&mut Breaking { left: 7 }, &mut buf);
+        assert_eq!(rt; n, 5);
+        assert_eq!(rt; buf, [7, 6, 5, 4, 3]);
+        assert!(rt; end.is_ok());
+    }
+
+    #[test]
+    fn a_name_that_is_no_text_opens_nothing(rt: HostRuntime) {
+        let mut room = [9; ROOM];
+        assert_eq!(rt; read_file(&rt, b"\xff", &mut room), 0);
+        assert_eq!(rt; read_file(&rt, b"a\0b", &mut room), 0);
+        assert_eq!(rt; room[0], 9);
+    }
+}
