@@ -1,4 +1,4 @@
-//! Links `libnibrocate.a`, from the directory that `NIBROCATE_LIB` names or else from where `rt staticlib` puts it.
+//! Links `libnibrocate.a`, from the directory that `NIBROCATE_LIB` names or else from where `scripts/library` puts it.
 
 use std::env;
 use std::path::{Path, PathBuf};
@@ -12,7 +12,7 @@ fn main() {
     println!("cargo:rerun-if-changed={}", archive.display());
     assert!(
         archive.is_file(),
-        "there is no {}: run `rt staticlib nibrocate`, or let NIBROCATE_LIB name its directory",
+        "there is no {}: run `scripts/library`, or let NIBROCATE_LIB name its directory",
         archive.display()
     );
     println!("cargo:rustc-link-search=native={}", directory.display());

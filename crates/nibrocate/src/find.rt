@@ -11,11 +11,3 @@ pub fn find(text: &[u8], table: &mut [u32], pointer: &[u8]) -> Answer
 {
     find_text(text, table, pointer)
 }
-
-// The same for C.
-#[unsafe(no_mangle)]
-pub extern "C" fn nib_find(text: &[u8], table: &mut [u32], pointer: &[u8]) -> Answer
-    ensures finder { Finder text.now table.old pointer.now (answer_of result) table.new }
-{
-    find(text, table, pointer)
-}

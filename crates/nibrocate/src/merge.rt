@@ -18,17 +18,3 @@ pub fn merge(
 {
     merge_text(target, target_table, patch, patch_table, out)
 }
-
-// The same for C.
-#[unsafe(no_mangle)]
-pub extern "C" fn nib_merge(
-    target: &[u8],
-    target_table: &mut [u32],
-    patch: &[u8],
-    patch_table: &mut [u32],
-    out: &mut [u8],
-) -> Answer
-    ensures merger { Merger target.now target_table.old patch.now patch_table.old out.old (answer_of result) target_table.new patch_table.new out.new }
-{
-    merge(target, target_table, patch, patch_table, out)
-}

@@ -3,7 +3,7 @@ ghost use Rattle.std.specs.Prelude.{ℕ};
 ghost use Rattle.entries.specs.Entries.{PartFinder};
 ghost use Rattle.entries.specs.Parts.{PartOf};
 
-use lookup::part::{Part, part_text};
+use lookup::part::part_text;
 
 // The bytes of the value that `pointer` names in `text`, without a copy; the empty part on any refusal.
 pub fn part<'a>(text: &'a [u8], table: &mut [u32], pointer: &[u8]) -> &'a [u8]
@@ -13,12 +13,4 @@ pub fn part<'a>(text: &'a [u8], table: &mut [u32], pointer: &[u8]) -> &'a [u8]
     let start = p.start;
     let end = p.end;
     &text[start..end]
-}
-
-// The same for C, by its offsets.
-#[unsafe(no_mangle)]
-pub extern "C" fn nib_part_of(text: &[u8], table: &mut [u32], pointer: &[u8]) -> Part
-    ensures part { PartFinder text.now table.old pointer.now result.start result.end table.new }
-{
-    part_text(text, table, pointer)
 }

@@ -12,11 +12,3 @@ pub fn read(text: &[u8], table: &mut [u32]) -> Answer
 {
     read_text(text, table, 1)
 }
-
-// The same for C.
-#[unsafe(no_mangle)]
-pub extern "C" fn nib_read(text: &[u8], table: &mut [u32]) -> Answer
-    ensures reader { Reader text.now table.old (answer_of result) table.new }
-{
-    read(text, table)
-}

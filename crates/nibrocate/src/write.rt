@@ -12,11 +12,3 @@ pub fn write(text: &[u8], table: &mut [u32], out: &mut [u8]) -> Answer
 {
     write_text(text, table, out)
 }
-
-// The same for C.
-#[unsafe(no_mangle)]
-pub extern "C" fn nib_write(text: &[u8], table: &mut [u32], out: &mut [u8]) -> Answer
-    ensures writer { Writer text.now table.old out.old (answer_of result) table.new out.new }
-{
-    write(text, table, out)
-}

@@ -7,7 +7,7 @@ use Rattle.scan.specs.declared.exponent.Mantissa.{Mantissa}
 use Rattle.scan.specs.declared.number.Number.{Number}
 use Rattle.text.proofs.Digits.{and_digit}
 use Rattle.text.proofs.Machine.{Numeral, State}
-use Rattle.text.specs.Bytes.{Bytes, from, is_digit}
+use Rattle.text.specs.Bytes.{Bytes, is_digit}
 use Rattle.text.specs.Ceilings.{max_digits, max_power, max_power_digits}
 use lib.Dec.{T}
 use lib.ListN.{get_or, length}

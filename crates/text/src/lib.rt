@@ -2,4 +2,3 @@
 // every refusal, and the record table. Definitions stand in specs/, demand 3 is proved of them in
 // proofs/. There is no code here.
 #![tactic(auto)]
-

@@ -28,7 +28,6 @@ use Rattle.values.specs.Children.{Child, elements, members}
 use Rattle.values.specs.Held.{Held, HeldAll, Holds, Recorded, Spelt, Unlinked}
 use lib.ListN.{drop, get_or, length, length-append, length-drop}
 use lib.Seq.{get_or-drop}
-use mathlib.Core.Bool.{true}
 use mathlib.Core.List.{List, ◌++◌, ◌∷◌}
 use mathlib.Core.Path.{◌∙◌, ◌≡◌, ap, refl, subst, sym}
 use native.Mathlib.Nat.{add-zero}

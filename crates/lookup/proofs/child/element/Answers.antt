@@ -1,5 +1,4 @@
 -- Element `left` of those from `r` on is the one that is asked for.
-use Prim.Native.Nat.{◌-◌}
 use Rattle.lookup.proofs.Counting.{count_end, count_found, count_seat, count_start, count_turn}
 use native.Mathlib.Omega.{arith}
 use Rattle.lookup.proofs.child.element.Goals as goal

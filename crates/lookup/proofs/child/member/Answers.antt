@@ -1,5 +1,4 @@
 -- The members from `k` on answer as all of them do.
-use Prim.Native.Nat.{◌-◌}
 use Rattle.lookup.proofs.Finding.{pass_end, pass_found, pass_name, pass_seat, pass_start, pass_turn}
 use mathlib.Core.Path.{◌∙◌, sym}
 use native.Mathlib.Omega.{arith}

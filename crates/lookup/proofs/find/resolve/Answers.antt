@@ -2,7 +2,6 @@ use native.Mathlib.Omega.{arith}
 use mathlib.Core.Path.{ap}
 use Rattle.lookup.proofs.Walking.{answered_as, held_small, pointer_short, token, walk_end, walk_lost, walk_on, walk_start}
 use Rattle.reader.specs.Answers.{answer_of}
-use Prim.Native.Nat.{◌-◌}
 use Rattle.lookup.proofs.find.resolve.Goals as goal
 
 pub loop-i-init : goal.loop-i-init

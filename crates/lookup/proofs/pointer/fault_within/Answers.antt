@@ -2,7 +2,6 @@
 use Rattle.lookup.proofs.Faults.{fault_bare, fault_end, fault_high, fault_pair, fault_plain, pair_stands, parse_checked, parse_empty, parse_other, parse_slash}
 use borrow.Author.Tests.{not-false, not-true}
 use mathlib.Core.Path.{◌∙◌, sym}
-use Prim.Native.Nat.{◌-◌}
 use native.Mathlib.Omega.{arith}
 use Rattle.lookup.proofs.pointer.fault_within.Goals as goal
 

@@ -1,7 +1,6 @@
 -- No `/` stands before `i`, so that the first from `at` on is the first from `i` on.
 use Rattle.lookup.proofs.Ends.{before_end, before_next, before_slash_lem, token_to}
 use mathlib.Core.Path.{◌∙◌, refl}
-use Prim.Native.Nat.{◌-◌}
 use native.Mathlib.Omega.{arith}
 use Rattle.lookup.proofs.pointer.token_end.Goals as goal
 

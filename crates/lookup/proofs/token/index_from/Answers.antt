@@ -2,7 +2,6 @@
 use Rattle.lookup.proofs.Indices.{digit_bounds, digits_end, digits_great, digits_more, digits_none}
 use borrow.Author.Tests.{not-false, not-true}
 use mathlib.Core.Path.{◌∙◌, sym}
-use Prim.Native.Nat.{◌-◌}
 use native.Mathlib.Omega.{arith}
 use Rattle.lookup.proofs.token.index_from.Goals as goal
 

@@ -1,7 +1,6 @@
 -- The units before `i` and `j` are the same, and decide nothing.
 use Rattle.lookup.proofs.Reading.{units_equal, units_other, units_same}
 use mathlib.Core.Path.{◌∙◌, refl, sym}
-use Prim.Native.Nat.{◌-◌}
 use native.Mathlib.Omega.{arith}
 use Rattle.lookup.proofs.token.same_name.Goals as goal
 

@@ -1,5 +1,4 @@
 -- The siblings before `r` have different names.
-use Prim.Native.Nat.{◌-◌}
 use Rattle.members.proofs.Pairing.{pair_end, pair_found, pair_front, pair_named, pair_start, pair_turn}
 use native.Mathlib.Omega.{arith}
 use Rattle.members.proofs.pairs.by_pairs.Goals as goal

@@ -1,5 +1,4 @@
 -- No sibling before `p` has the name.
-use Prim.Native.Nat.{◌-◌}
 use Rattle.members.proofs.Looking.{look_end, look_found, look_named, look_start, look_turn}
 use Rattle.members.proofs.Ordering.{same_no, same_yes}
 use native.Mathlib.Omega.{arith}

@@ -1,5 +1,4 @@
 -- The siblings before `r` are `n`.
-use Prim.Native.Nat.{◌-◌}
 use Rattle.members.proofs.Counting.{count_end, count_fits, count_start, count_turn}
 use native.Mathlib.Omega.{arith}
 use Rattle.members.proofs.siblings.count.Goals as goal

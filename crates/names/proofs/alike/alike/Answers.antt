@@ -1,7 +1,6 @@
 -- Eight at a time and then one by one, the bytes before `i` decide nothing.
 use Rattle.names.proofs.Runs.{then}
 use borrow.Author.Tests.{not-false}
-use Prim.Native.Nat.{◌-◌}
 use native.Mathlib.Omega.{arith}
 use Rattle.names.proofs.alike.alike.Goals as goal
 

@@ -1,7 +1,6 @@
 -- The bytes before `i` decide nothing.
 use Rattle.names.proofs.Runs.{alike_none, then}
 use borrow.Author.Tests.{not-false}
-use Prim.Native.Nat.{◌-◌}
 use native.Mathlib.Omega.{arith}
 use Rattle.names.proofs.alike.eights.Goals as goal
 

@@ -1,6 +1,5 @@
 use Rattle.names.proofs.Reading.{closing_end, closing_quote}
 use mathlib.Core.Path.{◌∙◌, refl, sym}
-use Prim.Native.Nat.{◌-◌}
 use native.Mathlib.Omega.{arith}
 use Rattle.names.proofs.closing.closing_quote.Goals as goal
 

@@ -1,7 +1,6 @@
 -- The units before `i` and `j` are equal, and decide nothing.
 use Rattle.names.proofs.Comparing.{step_opens, units_equal, units_same}
 use mathlib.Core.Path.{◌∙◌, refl, sym}
-use Prim.Native.Nat.{◌-◌}
 use native.Mathlib.Omega.{arith}
 use Rattle.names.proofs.compare.by_units.Goals as goal
 

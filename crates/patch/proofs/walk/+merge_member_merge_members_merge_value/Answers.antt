@@ -1,9 +1,9 @@
 -- By the number of containers that may still open: a value calls on its members one level deeper, each member on its value.
 use Rattle.std.proofs.Common.{length, ap, refl, ◌∙◌, arith}
 use Rattle.patch.proofs.Emitting.{emit_length}
-use Rattle.patch.proofs.Going.{Next, at_room, end_fits, first_named, going_end, going_next, going_rest, going_start, going_turn, next_few, next_fits, both_empty, onward_same, takes_same}
-use Rattle.patch.proofs.Opening.{Opens, new_small, new_stands, object, old_small, old_value, opens_depth, opens_sides, opens_stands, plain_asks, plain_gives}
-use Rattle.patch.proofs.Taking.{Sets, keep_asks, keep_gives, name_fits, null_gives, patch_stands, sets, value_asks, value_gives, value_start}
+use Rattle.patch.proofs.Going.{at_room, end_fits, first_named, going_end, going_next, going_rest, going_start, going_turn, next_few, next_fits, both_empty, onward_same, takes_same}
+use Rattle.patch.proofs.Opening.{new_small, new_stands, object, old_small, old_value, opens_depth, opens_sides, opens_stands, plain_asks, plain_gives}
+use Rattle.patch.proofs.Taking.{keep_asks, keep_gives, name_fits, null_gives, patch_stands, sets, value_asks, value_gives, value_start}
 use Rattle.reader.specs.Tokens.{brace}
 use Rattle.writer.proofs.Entered.{cleared_object}
 use Rattle.writer.proofs.Writing.{leaving, left}

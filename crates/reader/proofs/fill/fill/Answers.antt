@@ -1,5 +1,4 @@
 -- Each arm keeps the invariant by its law in proofs/Loop, or stops as the law says.
-use Prim.Native.Nat.{◌-◌}
 use Rattle.reader.proofs.Loop.{bounds, closable, close_kept, comma_entering, dense, entering_asks, entry_kept, entry_onward, entry_stopped, mark_most, name_most, open_entering, short_after, short_value, start, stopped_long, value_kept, value_stopped, whole_text, wrong_stopped}
 use Rattle.reader.specs.States.{StoppedAs}
 use mathlib.Core.Path.{refl, subst⁻¹}

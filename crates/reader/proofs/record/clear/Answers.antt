@@ -1,5 +1,4 @@
 -- The words before `i` are 0, and the others are as at entry.
-use Prim.Native.Nat.{◌-◌}
 use borrow.Author.Fill.{fill_more}
 use lib.ListN.{length-set}
 use mathlib.Core.Path.{◌≡◌}

@@ -1,5 +1,4 @@
 -- The digits before `i` are `n` and come to `c`; a 19th ends the loop, so nothing overflows.
-use Prim.Native.Nat.{◌-◌}
 use Rattle.scan.proofs.Counts.{counted_many, counted_none, counted_one, few_small}
 use Rattle.scan.proofs.Numerals.{digit_bounds, no_digit}
 use Rattle.scan.proofs.Steps.{fails, holds}

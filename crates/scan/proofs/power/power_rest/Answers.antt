@@ -1,5 +1,4 @@
 -- The `k` exponent digits before `i` come to `e`, and each of them was allowed to stand there.
-use Prim.Native.Nat.{◌-◌}
 use Rattle.scan.proofs.Counts.{powered_end, powered_many, powered_none, powered_one}
 use Rattle.scan.proofs.Numerals.{digit_bounds, no_digit}
 use Rattle.scan.proofs.Steps.{fails, holds}

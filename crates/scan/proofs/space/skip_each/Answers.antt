@@ -4,7 +4,6 @@ use Rattle.scan.proofs.Spaces.{skipped_none, skipped_more}
 use borrow.Author.Tests.{not-true, not-false}
 use native.Mathlib.Omega.{arith}
 use mathlib.Core.Path.{sym, ◌∙◌}
-use Prim.Native.Nat.{◌-◌}
 use Rattle.scan.proofs.space.skip_each.Goals as goal
 
 pub loop-i-init : goal.loop-i-init

@@ -2,7 +2,6 @@
 use Rattle.scan.proofs.StringLaws.{read_none, then}
 use borrow.Author.Tests.{not-false}
 use native.Mathlib.Omega.{arith}
-use Prim.Native.Nat.{◌-◌}
 use Rattle.scan.proofs.string.eights.Goals as goal
 
 pub loop-i-init : goal.loop-i-init

@@ -1,5 +1,4 @@
 use Rattle.scan.proofs.StringLaws.{four_1, four_2, four_3, four_all}
-use Rattle.scan.specs.Answers.{at}
 use native.Mathlib.Omega.{arith}
 use mathlib.Core.Path.{refl}
 use Rattle.scan.proofs.string.four_each.Goals as goal

@@ -6,7 +6,6 @@ use mathlib.Core.Bool.{false}
 use borrow.Author.Tests.{not-true, not-false}
 use native.Mathlib.Omega.{arith}
 use mathlib.Core.Path.{◌≡◌, sym, ◌∙◌, subst}
-use Prim.Native.Nat.{◌-◌}
 use Rattle.scan.proofs.string.plain_run.Goals as goal
 
 pub returns-then-not-is_plain : goal.returns-then-not-is_plain

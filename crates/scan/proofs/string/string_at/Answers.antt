@@ -3,7 +3,6 @@ use Rattle.scan.proofs.StringLaws.{then, then_refused, slash_read, slash_refused
 use native.Mathlib.Omega.{arith}
 use mathlib.Core.Path.{refl}
 use mathlib.Core.List.{[]}
-use Prim.Native.Nat.{◌-◌}
 use Rattle.scan.proofs.string.string_at.Goals as goal
 
 pub loop-i-init : goal.loop-i-init

@@ -2,7 +2,6 @@
 use Rattle.scan.proofs.WordLaws.{word_more, word_wrong, word_short, word_end}
 use native.Mathlib.Omega.{arith}
 use mathlib.Core.Path.{refl, ◌∙◌}
-use Prim.Native.Nat.{◌-◌}
 use Rattle.scan.proofs.word.word_at.Goals as goal
 
 pub loop-k-init : goal.loop-k-init

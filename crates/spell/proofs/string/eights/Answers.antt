@@ -1,5 +1,4 @@
 -- The bytes before `i` are written as they stand.
-use Prim.Native.Nat.{◌-◌}
 use Rattle.spell.proofs.StringLaws.{plain_none, plain_then}
 use borrow.Author.Tests.{not-false}
 use Rattle.spell.proofs.string.eights.Goals as goal

@@ -1,5 +1,4 @@
 -- The characters from `from` up to `i` take `n` bytes.
-use Prim.Native.Nat.{◌-◌}
 use Rattle.spell.proofs.StringLaws.{none_ending, part_length, plain_length, some_part}
 use lib.ListN.{length}
 use mathlib.Core.Path.{ap}

@@ -1,5 +1,4 @@
 -- All but what is written from `i` on stands in the first `p` bytes of the output.
-use Prim.Native.Nat.{◌-◌}
 use Rattle.spell.proofs.StringLaws.{none_ending, some_part, upto_added, upto_close, upto_fits, upto_last, upto_lend, upto_length, upto_none, upto_start}
 use lib.ListN.{length-set}
 use native.Mathlib.Omega.{arith}

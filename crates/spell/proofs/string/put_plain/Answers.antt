@@ -1,5 +1,4 @@
 -- The bytes before `i` are copied.
-use Prim.Native.Nat.{◌-◌}
 use Rattle.meaning.specs.Canonical.{is_bare}
 use Rattle.spell.proofs.StringLaws.{copied_all, copied_more, copied_none, copied_room}
 use borrow.Author.Tests.{not-false}

@@ -1,5 +1,4 @@
 -- The first `i` bytes are copied.
-use Prim.Native.Nat.{◌-◌}
 use Rattle.spell.proofs.Stores.{copy_end, copy_more}
 use lib.ListN.{length-set}
 use mathlib.Core.Path.{refl}

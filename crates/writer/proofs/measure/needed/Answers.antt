@@ -1,5 +1,4 @@
 -- What is counted and what is pending make up the whole.
-use Prim.Native.Nat.{◌-◌}
 use Rattle.values.proofs.Records.{held_few, held_onward, held_room}
 use Rattle.writer.proofs.Weighing.{tally_end, tally_first, tally_start, tally_turn, writes_held}
 use native.Mathlib.Omega.{arith}
