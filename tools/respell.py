@@ -4,6 +4,9 @@
 usage: tools/respell.py            at the top of the repository, on the tree that port.py left
        tools/respell.py --list     prints the old and the new name of each, and changes nothing
 
+It was run once, for the second commit that docs/PORT.md names, and refuses a tree that has that page: today's proof files
+hold names of goals, which it would respell too.
+
 A name of specs/ or of a lemma file that holds a capital behind a small letter, or a dash, becomes
 words joined by `_`. Types, modules, functions of src/ and what the kit makes keep their names. A name
 that a file has from the kit stays in that file.
@@ -156,6 +159,8 @@ def respell(path, table, fields):
 
 
 def main():
+    if os.path.exists("docs/PORT.md"):
+        sys.exit("respell: docs/PORT.md is here, so this tree is respelled already")
     table, fields = names_and_fields()
     taken = {}
     for old, new in sorted(table.items()):

@@ -19,6 +19,9 @@ returns-then-out-n c =
 pub merge_value-requires : goal.merge_value-requires
 merge_value-requires c = (omega arith, write_asks c.merge_value-n.ensures.emitted c.merge_value-n.ensures.same (omega (arith, c.if-out-n.false)) c.requires)
 
+pub success-requires : goal.success-requires
+success-requires c = omega (arith, count_few c.merge_value-n.ensures.emitted c.requires)
+
 pub returns : goal.returns
 returns c =
     let k = c.merge_value-n.ensures in
