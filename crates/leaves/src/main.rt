@@ -3,37 +3,37 @@
 #![tactic(auto)]
 
 use scan::bytes::opens_number;
-use scan::number::{Number, Written, number_at};
+use scan::number::{Written, number_at};
+use scan::refusal::Refusal;
 use scan::space::skip;
 use scan::string::string_at;
 use scan::word::word_at;
 use std::io;
 
-fn show(rt: &impl Print, number: u64, at: usize) -> io::Result<()> {
-    println!(rt; "{number} at {at}")
+// What a leaf answers: the offset behind what was read, or the refusal's number and place.
+fn show(rt: &impl Print, answer: Result<usize, Refusal>) -> io::Result<()> {
+    match answer {
+        Ok(end) => println!(rt; "0 at {end}"),
+        Err(e) => println!(rt; "{e}"),
+    }
 }
 
 fn show_written(rt: &impl Print, w: Written) -> io::Result<()> {
     if w.negative {
         print!(rt; "-")?;
     }
-    print!(rt; "{} less {}", w.coefficient, w.fraction)?;
-    if w.down {
-        print!(rt; " down ")?;
-    } else {
-        print!(rt; " up ")?;
-    }
-    print!(rt; "{}: ", w.power)
+    let direction = if w.down { "down" } else { "up" };
+    print!(rt;
+        "{} less {} {direction} {}: ",
+        w.coefficient, w.fraction, w.power
+    )
 }
 
-fn show_number(rt: &impl Print, n: Number) -> io::Result<()> {
-    match n {
-        Number::Decimal(w) => {
-            show_written(rt, w)?;
-            show(rt, 0, w.end)
-        }
-        Number::Refused(k, p) => show(rt, k, p),
+fn show_number(rt: &impl Print, answer: Result<Written, Refusal>) -> io::Result<()> {
+    if let Ok(w) = answer {
+        show_written(rt, w)?;
     }
+    show(rt, answer.map(|w| w.end))
 }
 
 // Reads the token that `text` begins with: a string, a number, or one that begins as `null` does; else
@@ -44,17 +44,15 @@ fn leaf(rt: &impl Print, text: &[u8]) -> io::Result<()> {
     }
     let b = text[0];
     if b == b'"' {
-        let r = string_at(text, 1);
-        return show(rt, r.number, r.at);
+        return show(rt, string_at(text, 1));
     }
     if b == b'n' {
-        let r = word_at(text, 0, b"null");
-        return show(rt, r.number, r.at);
+        return show(rt, word_at(text, 0, b"null"));
     }
     if opens_number(b) {
         return show_number(rt, number_at(text, 0));
     }
-    show(rt, 0, skip(text, 0))
+    show(rt, Ok(skip(text, 0)))
 }
 
 fn main(rt: HostRuntime) -> io::Result<()> {

@@ -1,85 +1,44 @@
--- The loop over the members of an object, which looks for a name.
-use Prim.Native.Nat.{◌+◌, ◌-◌, ◌<◌, ◌≤◌, ℕ}
-use Rattle.lookup.proofs.Passing.{Rest, Seat, first_seat, onward, others}
-use Rattle.lookup.specs.Inside.{Inside, Listed}
-use Rattle.lookup.specs.Steps.{Stepped, nowhere}
-use Rattle.meaning.specs.Lookup.{Seen, by_name}
-use Rattle.names.proofs.Comparing.{rest_whole}
+-- What is found among the values inside a container, by their records.
+use Prim.Native.Nat.{◌+◌, ◌-◌, suc, zero, ℕ}
+use Rattle.lookup.specs.Steps.{Stepped}
+use Rattle.meaning.specs.Lookup.{Seen, by_name, nth}
 use Rattle.members.specs.Names.{name_at}
-use Rattle.members.specs.Records.{next_of, word}
+use Rattle.members.specs.Records.{word}
 use Rattle.names.specs.Units.{units}
-use Rattle.text.proofs.Records.{size_some}
+use Rattle.std.proofs.lemmas.List.{take_rest}
+use Rattle.std.specs.List.{find, slice_get}
+use Rattle.std.specs.Prelude.{Option, Some}
 use Rattle.text.specs.Bytes.{Bytes, Units}
 use Rattle.text.specs.Ceilings.{same}
-use Rattle.text.specs.Node.{Members, Node}
+use Rattle.text.specs.Node.{Members, Node, Nodes}
 use Rattle.text.specs.Table.{Words, size}
-use Rattle.values.proofs.Kin.{held_record}
-use Rattle.values.proofs.Records.{held_few, held_onward}
-use Rattle.values.specs.Children.{members, sizes}
-use Rattle.values.specs.Held.{HeldAll, Spelt}
+use Rattle.values.specs.Children.{elements, members, places}
+use Rattle.values.specs.Held.{Held, HeldAll, Spelt}
 use lib.ListN.{drop, length, take}
-use mathlib.Core.Bool.{Bool, false, true}
-use mathlib.Core.Path.{◌∙◌, ◌≡◌, ap, refl, subst⁻¹, sym}
-use native.Mathlib.Omega.{arith}
+use mathlib.Core.Bool.{Bool, cond, false, true}
+use mathlib.Core.Path.{◌∙◌, ◌≡◌, ap}
 
--- The first member is found if its name is `us`; else the others are left.
-by_first : (t : Bytes) (w : Words) (k p : ℕ) (us : Units) {q : ℕ} {ns : Units} (b : Bool) (v : Node) (ms : Members)
-    → word w k 2 ≡ q → name_at t q ≡ ns → same us (name_at t (word w k 2)) ≡ b
-    → by_name p us k (Members.member q ns v ms) ≡ elim b as (λ _. Seen) [ true ↦ Seen.found k v | false ↦ by_name p us (k + size v) ms ]
-unfolding by_name
-by_first t w k p us b v ms g n z =
-    ap (λ b. elim b as (λ _. Seen) [ true ↦ Seen.found k v | false ↦ by_name p us (k + size v) ms ]) (sym (ap (same us) (ap (name_at t) g ∙ n)) ∙ z)
+-- Whether record `r` is that of a member of the name `us`.
+abbrev pub is_named : Bytes → Words → Units → ℕ → Bool
+is_named t w us r = same us (name_at t (word w r 2))
 
-module _ {t : Bytes} {w : Words} {k e : ℕ} where
-  member_quote : {ms : Members} → Listed t w k e ms → k < e → word w k 2 < length t
-  unfolding members sizes
-  member_quote (Listed.listed Spelt.none (Inside.inside y f)) l = absurd (omega arith)
-  member_quote (Listed.listed (Spelt.more a b c n s) (Inside.inside (HeldAll.more h u g y) f)) l = omega (arith, g, b)
+-- As the bytes behind the name's opening quote, which stands at `q`, tell.
+pub named_by : (t : Bytes) (w : Words) (us : Units) (r q : ℕ) {z : Bool} → z ≡ same us (units (take (length t - (q + 1)) (drop (q + 1) t))) → q ≡ word w r 2 → z ≡ is_named t w us r
+named_by t w us r q f g = f ∙ ap (λ s. same us (units s)) (take_rest t (q + 1)) ∙ ap (λ q. same us (name_at t q)) g
 
-  module _ (p : ℕ) (us : Units) where
-    member_here : (ms : Members) → Listed t w k e ms → k < e → same us (name_at t (word w k 2)) ≡ true → Stepped t w p k (by_name p us k ms)
-    unfolding members sizes
-    member_here Members.empty (Listed.listed s (Inside.inside y f)) l z = absurd (omega arith)
-    member_here (Members.member q ns v ms) (Listed.listed (Spelt.more a b c n s) (Inside.inside (HeldAll.more h u g y) f)) l z =
-        subst⁻¹ (Stepped t w p k) (by_first t w k p us true v ms g n z) (Stepped.found refl (omega (arith, held_onward h, held_few h)) h)
+module _ {t : Bytes} {w : Words} (p : ℕ) where
+  pub nth_place : {k : ℕ} (i : ℕ) (vs : Nodes) → HeldAll t w k (elements vs) → Stepped t w p (slice_get (places k (elements vs)) i) (nth p i k vs)
+  unfolding elements nth places
+  nth_place i Nodes.nil HeldAll.none = Stepped.lost
+  nth_place zero (Nodes.cons v vs) (HeldAll.more h u e y) = Stepped.found h
+  nth_place {k} (suc i) (Nodes.cons v vs) (HeldAll.more h u e y) = nth_place {k = k + size v} i vs y
 
-    member_later : (ms : Members) → Listed t w k e ms → k < e → same us (name_at t (word w k 2)) ≡ false
-        → Rest Members (Listed t w (next_of w k) e) (by_name p us (next_of w k)) (by_name p us k ms)
-    unfolding members sizes next_of
-    member_later Members.empty (Listed.listed s (Inside.inside y f)) l z = absurd (omega arith)
-    member_later (Members.member q ns v ms) (Listed.listed (Spelt.more a b c n s) (Inside.inside (HeldAll.more h u g y) f)) l z =
-        record {
-          rest = ms;
-          inside = Listed.listed s (others (Inside.inside (HeldAll.more h u g y) f));
-          same = by_first t w k p us false v ms g n z ∙ ap (λ n. by_name p us n ms) (sym (held_record h));
-        }
+  first_place : {k : ℕ} {v : Node} {o : Option ℕ} {s : Seen} (x : Bool) → Held t w k v → Stepped t w p o s → Stepped t w p (cond x (Some k) o) (elim x as (λ _. Seen) [ true ↦ Seen.found k v | false ↦ s ])
+  first_place true h s = Stepped.found h
+  first_place false h s = s
 
-    member_none : (ms : Members) → Listed t w k e ms → e ≤ k → Stepped t w p nowhere (by_name p us k ms)
-    unfolding members by_name sizes
-    member_none Members.empty x l = Stepped.lost refl
-    member_none (Members.member q ns v ms) (Listed.listed s (Inside.inside y f)) l = absurd (omega (arith, l, f, size_some v))
-
--- The member `us` of those from `first` on is that of those from `k` on.
-pub record Passed (t : Bytes) (w : Words) (us : Units) (first e k : ℕ) : Type 0 where
-  pub left : (p : ℕ) (ms : Members) → Listed t w first e ms → Rest Members (Listed t w k e) (by_name p us k) (by_name p us first ms)
-
-pub pass_start : {t : Bytes} {w : Words} {us : Units} {first e : ℕ} → Passed t w us first e first
-pass_start = record { left = λ p ms h. record { rest = ms; inside = h; same = refl } }
-
-module _ {t : Bytes} {w : Words} {us : Units} {first e k : ℕ} (c : Passed t w us first e k) where
-  pub pass_seat : k < e → (ms : Members) × Listed t w first e ms → Seat w k × (word w k 2 < length t)
-  pass_seat l (ms, h) = let x = (c.left 0 ms h).inside in (elim x [ Listed.listed s i ↦ first_seat i l ], member_quote x l)
-
-  -- What is compared is its name, whose quote stands at `q`.
-  pub pass_name : {q : ℕ} {z : Bool} → q ≡ word w k 2 → z ≡ same us (units (take (length t - (q + 1)) (drop (q + 1) t))) → z ≡ same us (name_at t (word w k 2))
-  pass_name {q} g f = f ∙ ap (λ s. same us (units s)) (rest_whole t (q + 1)) ∙ ap (λ q. same us (name_at t q)) g
-
-  pub pass_turn : (m : ℕ) → k < e → same us (name_at t (word w k 2)) ≡ false → m ≡ next_of w k → Passed t w us first e m
-  pass_turn m l z g =
-      subst⁻¹ (Passed t w us first e) g (record { left = λ p ms h. let r = c.left p ms h in onward r (member_later p us r.rest r.inside l z) })
-
-  pub pass_found : k < e → same us (name_at t (word w k 2)) ≡ true → (p : ℕ) (ms : Members) → Listed t w first e ms → Stepped t w p k (by_name p us first ms)
-  pass_found l z p ms h = let r = c.left p ms h in subst⁻¹ (Stepped t w p k) r.same (member_here p us r.rest r.inside l z)
-
-  pub pass_end : e ≤ k → (p : ℕ) (ms : Members) → Listed t w first e ms → Stepped t w p nowhere (by_name p us first ms)
-  pass_end l p ms h = let r = c.left p ms h in subst⁻¹ (Stepped t w p nowhere) r.same (member_none p us r.rest r.inside l)
+  pub find_place : {k b : ℕ} (us : Units) (ms : Members) → Spelt t b ms → HeldAll t w k (members ms) → Stepped t w p (find (is_named t w us) (places k (members ms))) (by_name p us k ms)
+  unfolding members by_name places
+  find_place us Members.empty s HeldAll.none = Stepped.lost
+  find_place {k} us (Members.member q ns v ms) (Spelt.more a b c n s) (HeldAll.more h u e y) =
+      rw (ap (same us) (ap (name_at t) e ∙ n)) (first_place (same us ns) h (find_place {k = k + size v} us ms s y))

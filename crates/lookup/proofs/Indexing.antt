@@ -1,16 +1,15 @@
 -- What a token names in an array.
 use Prim.Native.Nat.{◌+◌, ◌<◌, ◌≤◌, suc, zero, ℕ}
-use Rattle.lookup.specs.Tokens.{Index}
+use Rattle.lookup.specs.Tokens.{Capped, Index}
 use Rattle.meaning.specs.Lookup.{Seen, child, is_index, nth}
 use Rattle.members.specs.Records.{max_records}
+use Rattle.std.specs.Prelude.{None, Some}
 use Rattle.text.proofs.Records.{size_some}
 use Rattle.text.specs.Bytes.{Units, value_from}
 use Rattle.text.specs.Node.{Node, Nodes}
 use Rattle.text.specs.Table.{size, size_all}
-use borrow.Author.Tests.{ltb-false, ltb-true}
-use lib.Dec.{ltb}
 use mathlib.Core.Bool.{Bool, false, true}
-use mathlib.Core.Path.{◌∙◌, ◌≡◌, ap, refl, sym}
+use mathlib.Core.Path.{◌≡◌, ap, refl}
 use native.Mathlib.Omega.{arith}
 
 -- An index past the last element names nothing.
@@ -26,12 +25,10 @@ array_child : (p : ℕ) (us : Units) (n a e : ℕ) (vs : Nodes) (b : Bool) → i
 unfolding child
 array_child p us n a e vs b = ap (λ b. elim b as (λ _. Seen) [ true ↦ nth p (value_from 0 us) (suc n) vs | false ↦ Seen.lost p ])
 
-pub by_index : (p n a e : ℕ) (vs : Nodes) {us : Units} {i : ℕ} → Index us i → size_all vs < max_records → child p us n (Node.array a e vs) ≡ nth p i (suc n) vs
-by_index p n a e vs {us} {i} x l = by (is_index us) (ltb i max_records) refl refl
-  where
-    by : (b c : Bool) → is_index us ≡ b → ltb i max_records ≡ c → child p us n (Node.array a e vs) ≡ nth p i (suc n) vs
-    by true true f g = array_child p us n a e vs true f ∙ ap (λ i. nth p i (suc n) vs) (x.capped.small f (ltb-true i max_records g))
-    by true false f g =
-        array_child p us n a e vs true f ∙ nth_past p (value_from 0 us) (suc n) vs (omega (arith, l, x.capped.great f (ltb-false i max_records g)))
-        ∙ sym (nth_past p i (suc n) vs (omega (arith, l, ltb-false i max_records g)))
-    by false c f g = array_child p us n a e vs false f ∙ sym (nth_past p i (suc n) vs (omega (arith, l, x.capped.none f)))
+module _ (p n a e : ℕ) (vs : Nodes) (us : Units) where
+  pub by_index : {i : ℕ} → Index us (Some i) → child p us n (Node.array a e vs) ≡ nth p i (suc n) vs
+  by_index (Capped.some f l) = array_child p us n a e vs true f
+
+  pub by_none : Index us None → size_all vs < max_records → child p us n (Node.array a e vs) ≡ Seen.lost p
+  by_none (Capped.great h) l = grind (arith, array_child, nth_past)
+  by_none (Capped.none f) l = array_child p us n a e vs false f

@@ -1,35 +1,29 @@
 -- What the units of a token say of the index that it is.
 use Prim.Native.Char.{code}
-use Prim.Native.Nat.{ℕ, ◌*◌, ◌+◌, ◌-◌, ◌≤◌}
-use Rattle.lookup.specs.Reading.{DigitsFrom, TokenStep}
+use Prim.Native.Nat.{ℕ, ◌*◌, ◌+◌, ◌-◌, ◌<◌, ◌≤◌}
+use Rattle.lookup.specs.Reading.{DigitsFrom, TokenStep, digit_of}
 use Rattle.lookup.specs.Tokens.{Capped, Index, token_units}
-use Rattle.meaning.proofs.NumberTrip.{nonzero_digit}
 use Rattle.meaning.specs.Lookup.{all_digits, is_index}
 use Rattle.members.specs.Records.{max_records}
-use Rattle.names.specs.Steps.{end_code}
-use Rattle.text.proofs.Tests.{and_left, digit_most, is_true, true_is}
+use Rattle.names.specs.declared.unit.Unit.{Unit}
+use Rattle.std.proofs.lemmas.Bool.Decides.{nat_tests}
+use Rattle.std.specs.Prelude.{None, Option, Some}
 use Rattle.text.specs.Bytes.{Bytes, Units, is_digit, is_nonzero, value_from}
-use borrow.Author.Tests.{eqb-false, eqb-true, le-leb}
-use lib.Dec.{eqb, leb, leb→le}
 use lib.ListN.{drop}
-use mathlib.Core.Bool.{Bool, false, true, true≢false}
+use mathlib.Core.Bool.{false, true}
 use mathlib.Core.List.{[], ◌∷◌}
-use mathlib.Core.Path.{◌∙◌, ◌≡◌, ap, refl, sym}
+use mathlib.Core.Path.{◌≡◌, ap, refl, subst}
 use native.Mathlib.Omega.{arith}
 
-pub digit_bounds : (c : ℕ) → is_digit c ≡ true → (code "0" ≤ c) × (c ≤ code "9")
-digit_bounds c t = (leb→le (code "0") c (and_left (leb (code "0") c) (leb c (code "9")) (is_true t)), digit_most c (is_true t))
-
--- A digit other than `0`, and what is no digit.
+-- A digit other than `0`, a `0`, and what is no digit.
 nonzero_is : (c : ℕ) → is_digit c ≡ true → (c ≡ code "0" → ⊥) → is_nonzero c ≡ true
-nonzero_is c t f = let (h, k) = digit_bounds c t in simp (le-leb (code "1") c (omega arith), le-leb c (code "9") k)
+nonzero_is c t f = grind (arith, nat_tests)
+
+zero_is : (c : ℕ) → is_digit c ≡ true → c - code "0" ≡ 0 → c ≡ code "0"
+zero_is c t z = grind (arith, nat_tests)
 
 nonzero_not : (c : ℕ) → is_digit c ≡ false → is_nonzero c ≡ false
-nonzero_not c d = by (is_nonzero c) refl
-  where
-    by : (x : Bool) → is_nonzero c ≡ x → x ≡ false
-    by true e = absurd (true≢false (sym (true_is (is_digit c) (nonzero_digit c (is_true e))) ∙ d))
-    by false e = refl
+nonzero_not c d = grind (arith, nat_tests)
 
 -- Digits behind a number make none that is smaller.
 value_least : (a : ℕ) (us : Units) → a ≤ value_from a us
@@ -37,43 +31,47 @@ unfolding value_from
 value_least a [] = omega arith
 value_least a (d ∷ us) = let h = value_least (10 * a + (d - code "0")) us in omega arith
 
--- A number by itself, one that is too great, and none.
-capped_self : (n : ℕ) → Capped true n n
-capped_self n = record { small = λ t l. refl; great = λ t l. l; none = λ t. absurd (true≢false t) }
+-- A unit that is a digit, and one that is none.
+record Digit (c d : ℕ) : Type 0 where
+  is : is_digit c ≡ true
+  value : d ≡ c - code "0"
 
-capped_great : (is : Bool) (n : ℕ) → max_records ≤ n → Capped is n max_records
-capped_great is n h = record { small = λ t l. absurd (omega arith); great = λ t l. h; none = λ t. omega arith }
+digit_some : (c : ℕ) {d : ℕ} → Some d ≡ digit_of c → Digit c d
+digit_some c e = record { is = grind (arith, nat_tests); value = grind (arith, nat_tests) }
 
-capped_none : (n : ℕ) → Capped false n max_records
-capped_none n = record { small = λ t l. absurd (omega arith); great = λ t l. absurd (true≢false (sym t)); none = λ t. omega arith }
+digit_none : (c : ℕ) → None ≡ digit_of c → is_digit c ≡ false
+digit_none c e = grind (arith, nat_tests)
 
--- The digits behind the number `a`, where `c` is the next unit.
-module _ {t : Bytes} {i c next : ℕ} (s : TokenStep t i c next) (a : ℕ) where
-  pub digits_end : c ≡ end_code → DigitsFrom t i a a
+-- The digits behind the number `a`.
+module _ (t : Bytes) (i a : ℕ) where
+  pub digits_end : token_units (drop i t) ≡ [] → a < max_records → DigitsFrom t i a (Some a)
   unfolding all_digits value_from
-  digits_end e = rw (s.none e) (capped_self a)
+  digits_end e h = rw e (Capped.some refl h)
 
-  module _ (f : c ≡ end_code → ⊥) where
-    pub digits_none : is_digit c ≡ false → DigitsFrom t i a max_records
+  module _ (u : Unit) (s : TokenStep t i (Some u)) where
+    pub digits_none : None ≡ digit_of u.code → DigitsFrom t i a None
     unfolding all_digits
-    digits_none d = rw ((s.some f).0, d) (capped_none _)
+    digits_none e = Capped.none (rw (s.0, digit_none u.code e))
 
-    pub digits_more : is_digit c ≡ true → (z : ℕ) → DigitsFrom t next (10 * a + (c - code "0")) z → DigitsFrom t i a z
-    unfolding all_digits value_from
-    digits_more d z x = rw ((s.some f).0, d) x
+    module _ {d : ℕ} (e : Some d ≡ digit_of u.code) where
+      pub digits_more : (r : Option ℕ) → DigitsFrom t u.next (10 * a + d) r → DigitsFrom t i a r
+      unfolding all_digits value_from
+      digits_more r x =
+          let f = digit_some u.code e in
+          rw (s.0, f.is) (subst (λ d. Capped (all_digits (token_units (drop u.next t))) (value_from (10 * a + d) (token_units (drop u.next t))) r) f.value x)
 
-    pub digits_great : max_records ≤ 10 * a + (c - code "0") → DigitsFrom t i a max_records
-    unfolding value_from
-    digits_great h = rw (s.some f).0 (capped_great _ _ (let l = value_least (10 * a + (c - code "0")) (token_units (drop next t)) in omega arith))
+      pub digits_great : max_records ≤ 10 * a + d → DigitsFrom t i a None
+      unfolding value_from
+      digits_great h =
+          let f = digit_some u.code e in
+          let l = value_least (10 * a + (u.code - code "0")) (token_units (drop u.next t)) in
+          Capped.great (rw s.0 (omega (arith, f.value)))
 
--- The index of a whole token, whose first unit is `c`.
-capped_index : {us : Units} {z : ℕ} → Capped (is_index us) (value_from 0 us) z → Index us z
-capped_index c = record { capped = c }
-
-index_nonzero : (c : ℕ) (us : Units) → is_digit c ≡ true → is_nonzero c ≡ true → is_index (c ∷ us) ≡ all_digits us
+-- The index of a whole token, by its first unit.
+index_digits : (c : ℕ) (us : Units) → is_digit c ≡ true → (c ≡ code "0" → us ≡ []) → is_index (c ∷ us) ≡ all_digits us
 unfolding is_index all_digits
-index_nonzero c [] d e = d
-index_nonzero c (u ∷ us) d e = rw e
+index_digits c [] d f = d
+index_digits c (u ∷ us) d f = rw (nonzero_is c d (λ e. absurd (cc (f e))))
 
 value_first : (c : ℕ) (us : Units) → value_from 0 (c ∷ us) ≡ value_from (c - code "0") us
 unfolding value_from
@@ -84,27 +82,28 @@ unfolding is_index
 index_other c [] d = d
 index_other c (u ∷ us) d = rw (nonzero_not c d)
 
-module _ {t : Bytes} {c next : ℕ} (s : TokenStep t 0 c next) where
-  pub index_none : is_digit c ≡ false → Index (token_units t) max_records
+module _ (t : Bytes) where
+  pub index_empty : token_units (drop 0 t) ≡ [] → Index (token_units t) None
   unfolding is_index
-  index_none d = by (eqb c end_code) refl
-    where
-      by : (x : Bool) → eqb c end_code ≡ x → Index (token_units t) max_records
-      by true e = rw (s.none (eqb-true _ _ e)) (capped_index (capped_none _))
-      by false e = rw (s.some (eqb-false _ _ e)).0 (capped_index (rw (index_other c (token_units (drop next t)) d) (capped_none _)))
+  index_empty e = Capped.none (rw e)
 
-  module _ (d : is_digit c ≡ true) where
-    unit : token_units t ≡ c ∷ token_units (drop next t)
-    unit = (s.some (λ e. let b = digit_bounds c d in omega arith)).0
+  module _ (u : Unit) (s : TokenStep t 0 (Some u)) where
+    pub index_none : None ≡ digit_of u.code → Index (token_units t) None
+    index_none e = Capped.none (rw s.0 (index_other u.code (token_units (drop u.next t)) (digit_none u.code e)))
 
-    pub index_first : (c ≡ code "0" → ⊥) → (z : ℕ) → DigitsFrom t next (c - code "0") z → Index (token_units t) z
-    index_first f z x = rw unit (capped_index (rw (index_nonzero c (token_units (drop next t)) d (nonzero_is c d f), value_first c (token_units (drop next t))) x))
-
-    module _ (e : c ≡ code "0") {b m : ℕ} (r : TokenStep t next b m) where
-      pub index_zero : b ≡ end_code → Index (token_units t) 0
-      unfolding is_index value_from
-      index_zero n = rw (unit, e, r.none n) (capped_index (capped_self 0))
-
-      pub index_leading : (b ≡ end_code → ⊥) → Index (token_units t) max_records
+    module _ {d : ℕ} (e : Some d ≡ digit_of u.code) where
+      -- A `0` is an index by itself only.
+      pub index_leading : d ≡ 0 → (v : Unit) → TokenStep t u.next (Some v) → Index (token_units t) None
       unfolding is_index
-      index_leading f = rw (unit, e, (r.some f).0) (capped_index (capped_none _))
+      index_leading z v r = let f = digit_some u.code e in Capped.none (rw (s.0, zero_is u.code f.is (omega (arith, f.value)), r.0) refl)
+
+      pub index_first : (d ≡ 0 → TokenStep t u.next None) → (r : Option ℕ) → DigitsFrom t u.next d r → Index (token_units t) r
+      index_first g r x =
+          let f = digit_some u.code e in
+          let us = token_units (drop u.next t) in
+          rw (s.0, index_digits u.code us f.is (λ z. g (omega (arith, f.value, z))), value_first u.code us) (subst (λ d. Capped (all_digits us) (value_from d us) r) f.value x)
+
+-- What a loop over the digits cites, and what the first unit is asked.
+pub ruleset digits = (digits_end, digits_none, digits_great)
+
+pub ruleset indices = (index_empty, index_none, index_leading, index_first)

@@ -3,8 +3,6 @@ pub mod Reading
 pub mod Indices
 pub mod Ends
 pub mod Faults
-pub mod Passing
-pub mod Counting
 pub mod Finding
 pub mod Indexing
 pub mod Shapes

@@ -1,11 +1,13 @@
--- What a look-up answers for a pointer that is well formed.
-use Rattle.std.specs.Prelude.{ℕ, List, ◌≡◌}
-use Rattle.entries.specs.Answer.{Answer, refusal, success}
+-- What a look-up in a text's value answers.
+use Rattle.std.specs.Prelude.{ℕ, ◌≤◌, List, ◌≡◌, Result, Ok, Err}
 use Rattle.meaning.specs.Lookup.{Seen, resolve}
-use Rattle.meaning.specs.Pointer.{Token}
+use Rattle.meaning.specs.Pointer.{Malformed, Pointer, Token, max_pointer}
+use Rattle.scan.specs.declared.refusal.Refusal.{Refusal}
+use Rattle.text.specs.Bytes.{Bytes}
 use Rattle.text.specs.Node.{Node}
 
--- The answer `a` says what the tokens `ts` name in the value `v`, or where they are lost.
-pub data Resolved (ts : List Token) (v : Node) : Answer → Type 0 where
-  found : {n : ℕ} {u : Node} → resolve ts 0 v ≡ Seen.found n u → Resolved ts v (success n)
-  lost : {n : ℕ} → resolve ts 0 v ≡ Seen.lost n → Resolved ts v (refusal 11 2 n)
+-- The record of what the pointer `p` names in the value `v`, or where it is malformed, or lost.
+pub data Found (p : Bytes) (v : Node) : Result ℕ Refusal → Type 0 where
+  malformed : {n : ℕ} → n ≤ max_pointer → Malformed p n → Found p v (Err (Refusal.Malformed n))
+  lost : {ts : List Token} {n : ℕ} → n ≤ max_pointer → Pointer p ts → resolve ts 0 v ≡ Seen.lost n → Found p v (Err (Refusal.Lost n))
+  found : {ts : List Token} {n : ℕ} {u : Node} → Pointer p ts → resolve ts 0 v ≡ Seen.found n u → Found p v (Ok n)

@@ -2,5 +2,4 @@
 pub mod Tokens
 pub mod Reading
 pub mod Steps
-pub mod Inside
 pub mod Found

@@ -16,12 +16,10 @@ pub struct Part {
 pub fn part_text(text: &[u8], table: &mut [u32], pointer: &[u8]) -> Part
     ensures part { PartFinder text.now table.old pointer.now result.start result.end table.new }
 {
-    let a = find_text(text, table, pointer);
-    let number = a.number;
-    if number != 0 {
+    let Ok(n) = find_text(text, table, pointer) else {
         return Part { start: 0, end: 0 };
-    }
-    let r = a.count as usize;
+    };
+    let r = n as usize;
     Part {
         start: word_at(table, r, 0),
         end: word_at(table, r, 1),

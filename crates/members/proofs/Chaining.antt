@@ -13,7 +13,8 @@ use Rattle.members.specs.Lists.{In, Sorted}
 use Rattle.members.specs.Merging.{turned}
 use Rattle.members.specs.Names.{ahead, before, in_order, name_of}
 use Rattle.members.specs.Records.{Room, next_of, word}
-use Rattle.members.specs.Searches.{Earliest}
+use Rattle.members.specs.Repeats.{Earliest}
+use Rattle.std.specs.Prelude.{Option}
 use Rattle.text.specs.Bytes.{Bytes, Units}
 use Rattle.text.specs.Table.{Words}
 use mathlib.Core.Bool.{Bool, true}
@@ -43,8 +44,8 @@ module _ (t : Bytes) {w u : Words} {l c : List ℕ} (p : Linked (in_order t w) w
   pub linked_sorted : Sorted (in_order t u) c
   linked_sorted = rw (frame_name p.frame t) p.sorted
 
-  pub linked_earliest : {end z : ℕ} → Earliest (name_of t u) c end z → Earliest (name_of t w) l end z
-  linked_earliest e = earliest_same (name_of t w) p.same (rw (frame_name p.frame t) at e)
+  pub linked_earliest : (z : Option ℕ) → Earliest (name_of t u) c z → Earliest (name_of t w) l z
+  linked_earliest z e = earliest_same (name_of t w) z p.same (rw (frame_name p.frame t) at e)
 
 -- A change of the links of `l` alone leaves its siblings, and taking the links away gives the table back.
 module _ {lt : ℕ → ℕ → Bool} {w u : Words} {c : List ℕ} (first n : ℕ) (p : Linked lt w (siblings_of w n first) u c) where

@@ -16,29 +16,26 @@ pub record Climbing (name : ℕ → Units) (f : ℕ → ℕ) (l : List ℕ) (p i
   pub within : (v : ℕ) → In v (walk f i p) → In v l
   pub sorted : Sorted (ahead name) (walk f i p) → Sorted (ahead name) l
 
-pub climb_start : (name : ℕ → Units) (f : ℕ → ℕ) (n first : ℕ) → Climbing name f (walk f n first) first n
-climb_start name f n first = record { within = λ v i. i; sorted = λ s. s }
-
-module _ {name : ℕ → Units} {f : ℕ → ℕ} {l : List ℕ} {p : ℕ} where
-  pub climb_in : {i : ℕ} → Climbing name f l p i → 1 < i → In p l × In (f p) l
+module _ {name : ℕ → Units} {f : ℕ → ℕ} {l : List ℕ} {p i : ℕ} (c : Climbing name f l p i) where
+  pub climb_in : 1 < i → In p l × In (f p) l
   unfolding walk
-  climb_in {i = zero} c h = absurd (omega arith)
-  climb_in {i = suc zero} c h = absurd (omega arith)
-  climb_in {i = suc (suc i)} c h = (c.within p In.here, c.within (f p) (In.there In.here))
+  climb_in h =
+      let e : i ≡ suc (suc (i - 2)) = omega arith in
+      let d = rw e at c in
+      (d.within p In.here, d.within (f p) (In.there In.here))
 
-  pub climb_turn : (i q : ℕ) → Climbing name f l p i → 1 < i → q ≡ f p → order (name p) (name q) ≡ 0 → Climbing name f l q (i - 1)
+  pub climb_turn : {j q : ℕ} → i ≡ suc j → 0 < j → q ≡ f p → order (name p) (name q) ≡ 0 → Climbing name f l q j
   unfolding walk
-  climb_turn zero q c h e o = absurd (omega arith)
-  climb_turn (suc zero) q c h e o = absurd (omega arith)
-  climb_turn (suc (suc i)) q c h e o =
-      let d : suc (suc i) - 1 ≡ suc i = omega arith in
-      rw (d, e) record {
-        within = λ v k. c.within v (In.there k);
-        sorted = λ s. c.sorted (Sorted.more (before_all (ahead name) (ahead_trans name) p (f p) _ s (first_ahead name p (f p) (rw e at o))) s);
+  climb_turn {j} d h e o =
+      let g : j ≡ suc (j - 1) = omega arith in
+      let b = rw (d, g) at c in
+      rw (g, e) record {
+        within = λ v k. b.within v (In.there k);
+        sorted = λ s. b.sorted (Sorted.more (before_all (ahead name) (ahead_trans name) p (f p) _ s (first_ahead name p (f p) (rw e at o))) s);
       }
 
-  pub climb_end : {i : ℕ} → Climbing name f l p i → i ≤ 1 → Sorted (ahead name) l
-  unfolding walk
-  climb_end {i = zero} c h = c.sorted Sorted.none
-  climb_end {i = suc zero} c h = c.sorted (sorted_one p)
-  climb_end {i = suc (suc i)} c h = absurd (omega arith)
+pub climb_end : {name : ℕ → Units} {f : ℕ → ℕ} {l : List ℕ} {p i : ℕ} → Climbing name f l p i → i ≤ 1 → Sorted (ahead name) l
+unfolding walk
+climb_end {i = zero} c h = c.sorted Sorted.none
+climb_end {p = p} {i = suc zero} c h = c.sorted (sorted_one p)
+climb_end {i = suc (suc i)} c h = absurd (omega arith)

@@ -1,10 +1,11 @@
--- The first repeat of lists in which there is none, and of lists with the same members.
-use Prim.Native.Nat.{◌<◌, ℕ}
+-- Lists in which no name is repeated, and lists with the same members.
+use Prim.Native.Nat.{ℕ}
 use Rattle.members.proofs.Membership.{in_cases, in_none, in_single}
 use Rattle.members.proofs.Ordering.{ahead_apart}
 use Rattle.members.specs.Lists.{In, Same, Sorted}
 use Rattle.members.specs.Names.{ahead}
-use Rattle.members.specs.Searches.{Earliest}
+use Rattle.members.specs.Repeats.{Distinct, Earliest}
+use Rattle.std.specs.Prelude.{None, Option, Some}
 use Rattle.text.specs.Bytes.{Units}
 use mathlib.Core.Bool.{true}
 use mathlib.Core.List.{List, [], ◌∷◌}
@@ -12,24 +13,17 @@ use mathlib.Core.Logic.{◌⊎◌, inl, inr, ⊎_elim}
 use mathlib.Core.Path.{◌∙◌, ◌≡◌, sym}
 use native.Mathlib.Omega.{arith}
 
--- No two of these records have the same name.
-abbrev pub Distinct : (ℕ → Units) → List ℕ → Type 0
-Distinct name l = (x y : ℕ) → In x l → In y l → x < y → name x ≡ name y → ⊥
-
 module _ (name : ℕ → Units) where
-  pub earliest_none : {l : List ℕ} (end : ℕ) → Distinct name l → Earliest name l end end
-  earliest_none end n =
-      record { most = omega arith; least = λ x y i j h e. absurd (n x y i j h e); real = λ h. absurd (omega arith) }
+  pub distinct_one : (p : ℕ) → Distinct name (p ∷ [])
+  distinct_one p x y i j h e = omega (arith, h, in_single i, in_single j)
 
-  pub earliest_one : (p end : ℕ) → Earliest name (p ∷ []) end end
-  earliest_one p end = earliest_none end (λ x y i j h e. omega (arith, h, in_single i, in_single j))
-
-  pub earliest_same : {a b : List ℕ} {end z : ℕ} → Same a b → Earliest name a end z → Earliest name b end z
-  earliest_same {z = z} s p =
+  pub earliest_same : {a b : List ℕ} (z : Option ℕ) → Same a b → Earliest name a z → Earliest name b z
+  earliest_same None s p = λ x y i j. p x y (s.back x i) (s.back y j)
+  earliest_same (Some z) s p =
+      let q = p.real in
       record {
-        most = p.most;
         least = λ x y i j. p.least x y (s.back x i) (s.back y j);
-        real = λ h. let q = p.real h in (s.to z q.0, (q.1.0, s.to q.1.0 q.1.1, q.1.2, q.1.3));
+        real = (s.to z q.0, (q.1.0, s.to q.1.0 q.1.1, q.1.2, q.1.3));
       }
 
   ascend_by : {l : List ℕ} → Sorted (ahead name) l → (x y : ℕ) → In x l → In y l → (x ≡ y) ⊎ ((ahead name x y ≡ true) ⊎ (ahead name y x ≡ true))
@@ -41,7 +35,6 @@ module _ (name : ℕ → Units) where
       (in_cases i)
 
   -- Where names ascend none is repeated.
-  pub earliest_ascending : {l : List ℕ} (end : ℕ) → Sorted (ahead name) l → Earliest name l end end
-  earliest_ascending end s =
-      earliest_none end
-      (λ x y i j h e. ⊎_elim (λ d. omega arith) (⊎_elim (λ d. ahead_apart name x y d e) (λ d. ahead_apart name y x d (sym e))) (ascend_by s x y i j))
+  pub distinct_ascending : {l : List ℕ} → Sorted (ahead name) l → Distinct name l
+  distinct_ascending s x y i j h e =
+      ⊎_elim (λ d. omega arith) (⊎_elim (λ d. ahead_apart name x y d e) (λ d. ahead_apart name y x d (sym e))) (ascend_by s x y i j)

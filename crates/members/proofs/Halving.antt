@@ -34,10 +34,7 @@ module _ (f : ℕ → ℕ) (first : ℕ) where
   some_in zero h = absurd (omega arith)
   some_in (suc n) h = In.here
 
-pub halved : (n : ℕ) → 1 ≤ n → (n ≡ 1 → ⊥) → 2 ≤ n
-halved n p h = omega arith
-
-module _ {t : Bytes} {w : Words} (up : Bool) (first n m : ℕ) (fits : m ≤ n) (free : Free t w (siblings_of w n first)) where
+module _ {t : Bytes} {w : Words} (first n m : ℕ) (fits : m ≤ n) (free : Free t w (siblings_of w n first)) where
   middle : ℕ
   middle = after (next_of w) m first
 
@@ -57,7 +54,7 @@ module _ {t : Bytes} {w : Words} (up : Bool) (first n m : ℕ) (fits : m ≤ n) 
   halves_apart {v} i j = omega (arith, ltb-true v v (sorted_across _ parts.rising i j))
 
   -- The first half is sorted.
-  module _ {u : Words} (a r : ℕ) (er : r ≡ after (next_of w) m first) (p : Linked (turned (not up) (in_order t w)) w (siblings_of w m first) u (chain_of u m a)) where
+  module _ {u : Words} (up : Bool) (a r : ℕ) (er : r ≡ after (next_of w) m first) (p : Linked (turned (not up) (in_order t w)) w (siblings_of w m first) u (chain_of u m a)) where
     second : siblings_of u (n - m) r ≡ siblings_of w (n - m) middle
     unfolding middle
     second = rw (er, frame_next p.frame)

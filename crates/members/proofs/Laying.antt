@@ -1,6 +1,6 @@
 -- Links set one after the other along the siblings.
-use Prim.Native.Nat.{◌-◌, ◌<◌, ◌≤◌, suc, zero, ℕ}
-use Rattle.members.proofs.Framing.{frame_next, frame_refl, frame_trans}
+use Prim.Native.Nat.{◌<◌, ◌≤◌, suc, zero, ℕ}
+use Rattle.members.proofs.Framing.{frame_next, frame_trans}
 use Rattle.members.proofs.Linking.{link_back, link_else, link_frame}
 use Rattle.members.proofs.Membership.{in_cases, in_none}
 use Rattle.members.specs.Chains.{siblings_of, walk}
@@ -13,7 +13,7 @@ use lib.Dec.{eqb}
 use mathlib.Core.Bool.{Bool, false, true}
 use mathlib.Core.List.{List, ◌∷◌}
 use mathlib.Core.Logic.{◌⊎◌, inl, inr, ⊎_elim}
-use mathlib.Core.Path.{◌∙◌, ◌≡◌, ap, refl}
+use mathlib.Core.Path.{◌∙◌, ◌≡◌, refl}
 use native.Mathlib.Omega.{arith}
 
 -- The `i` siblings from `r` on are left; the links of the others are as `f` says.
@@ -21,9 +21,6 @@ pub record Laying (f : ℕ → ℕ) (l : List ℕ) (w u : Words) (r i : ℕ) : T
   pub within : (v : ℕ) → In v (siblings_of w i r) → In v l
   pub frame : Frame l w u
   pub links : (v : ℕ) → In v l → In v (siblings_of w i r) ⊎ (link_of u v ≡ f v)
-
-pub lay_start : (f : ℕ → ℕ) (w : Words) (first n : ℕ) → Laying f (siblings_of w n first) w w first n
-lay_start f w first n = record { within = λ v i. i; frame = frame_refl _ w; links = λ v i. inl i }
 
 -- The link of one record is set.
 module _ (f : ℕ → ℕ) (u : Words) (r : ℕ) (room : Room u r) (small : f r ≤ max_records) where
@@ -35,34 +32,35 @@ module _ (f : ℕ → ℕ) (u : Words) (r : ℕ) (room : Room u r) (small : f r 
   set_links rest v =
       ⊎_elim (λ i. ⊎_elim (λ e. inr (rw e (link_back u r (f r) room small))) (λ k. inl k) (in_cases i)) (λ e. inr (set_by v (eqb v r) refl e))
 
-module _ {f : ℕ → ℕ} {l : List ℕ} {w u : Words} where
-  pub lay_in : {r i : ℕ} → Laying f l w u r i → 0 < i → In r l
+module _ {f : ℕ → ℕ} {l : List ℕ} {w u : Words}
+    (fit : (v : ℕ) → In v l → Room w v × (f v ≤ max_records)) where
+  lay_in : {r i : ℕ} → Laying f l w u r i → 0 < i → In r l
   unfolding walk
   lay_in {i = zero} p h = absurd (omega arith)
   lay_in {r = r} {i = suc i} p h = p.within r In.here
 
-  pub lay_room : {r i : ℕ} → Laying f l w u r i → 0 < i → ((v : ℕ) → In v l → Room w v) → Room u r
-  lay_room {r = r} p h room = omega (arith, p.frame.long, room r (lay_in p h))
+  -- The record that comes next may be linked.
+  pub lay_fit : {r i : ℕ} → Laying f l w u r i → 0 < i → Room u r × (f r ≤ max_records)
+  lay_fit {r} p h = let k = fit r (lay_in p h) in (omega (arith, k.0, p.frame.long), k.1)
 
-  pub lay_next : {r i q : ℕ} → Laying f l w u r i → q ≡ next_of u r → q ≡ next_of w r
-  lay_next {r = r} p e = e ∙ ap (λ (g : ℕ → ℕ). g r) (frame_next p.frame)
-
-  lay_step : (r i : ℕ) → Laying f l w u r (suc i) → Room u r → f r ≤ max_records → Laying f l w (with_link u r (f r)) (next_of w r) i
+  lay_step : (r i : ℕ) → Laying f l w u r (suc i) → Laying f l w (with_link u r (f r)) (next_of w r) i
   unfolding walk
-  lay_step r i p room small =
+  lay_step r i p =
+      let k = lay_fit p (omega arith) in
       record {
         within = λ v k. p.within v (In.there k);
-        frame = frame_trans p.frame (link_frame u r (f r) room l (p.within r In.here));
-        links = λ v k. set_links f u r room small (siblings_of w i (next_of w r)) v (p.links v k);
+        frame = frame_trans p.frame (link_frame u r (f r) k.0 l (p.within r In.here));
+        links = λ v z. set_links f u r k.0 k.1 (siblings_of w i (next_of w r)) v (p.links v z);
       }
 
-  pub lay_turn : (r i x q : ℕ) (u' : Words) → Laying f l w u r i → 0 < i → Room u r → f r ≤ max_records → x ≡ f r → u' ≡ with_link u r x
-      → q ≡ next_of u r → Laying f l w u' q (i - 1)
-  lay_turn r zero x q u' p h room small e g k = absurd (omega arith)
-  lay_turn r (suc i) x q u' p h room small e g k =
-      let d : suc i - 1 ≡ i = omega arith in rw (d, g, e, k, frame_next p.frame) (lay_step r i p room small)
+  pub lay_turn : {r i j x q : ℕ} {u' : Words} → Laying f l w u r i → i ≡ suc j → x ≡ f r → u' ≡ with_link u r x → q ≡ next_of u r
+      → Laying f l w u' q j
+  lay_turn {r} {j = j} p d e g k = rw (g, e, k, frame_next p.frame) (lay_step r j (rw d at p))
 
-  pub lay_end : {r i : ℕ} → Laying f l w u r i → i ≤ 0 → Laid f l w u
-  unfolding walk
-  lay_end {i = zero} p h = record { frame = p.frame; links = λ v k. ⊎_elim (λ z. absurd (in_none z)) (λ e. e) (p.links v k) }
-  lay_end {i = suc i} p h = absurd (omega arith)
+pub lay_next : {f : ℕ → ℕ} {l : List ℕ} {w u : Words} {r i q : ℕ} → Laying f l w u r i → q ≡ next_of u r → q ≡ next_of w r
+lay_next p e = rw (frame_next p.frame) at e
+
+pub lay_end : {f : ℕ → ℕ} {l : List ℕ} {w u : Words} {r i : ℕ} → Laying f l w u r i → i ≡ 0 → Laid f l w u
+unfolding walk
+lay_end p e =
+    let q = rw e at p in record { frame = q.frame; links = λ v k. ⊎_elim (λ z. absurd (in_none z)) (λ e. e) (q.links v k) }

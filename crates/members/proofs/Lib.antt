@@ -8,7 +8,7 @@ pub mod Ordering
 pub mod Naming
 pub mod Lineage
 pub mod RowLaws
-pub mod Counting
+pub mod Walking
 pub mod Laying
 pub mod Restoring
 pub mod Turning

@@ -71,8 +71,3 @@ pub siblings_append : {w : Words} {middle first end : ℕ} {a b : List ℕ} → 
     → Siblings w end first (a ++ b)
 siblings_append Siblings.none q = q
 siblings_append (Siblings.more h s) q = Siblings.more h (siblings_append s q)
-
--- One more at the end.
-pub siblings_one : {w : Words} {first r : ℕ} {a : List ℕ} → Siblings w r first a → r < next_of w r → Siblings w (next_of w r) first (a ++ (r ∷ []))
-unfolding next_of
-siblings_one s h = siblings_append s (Siblings.more h Siblings.none)

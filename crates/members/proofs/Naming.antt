@@ -5,20 +5,14 @@ use Rattle.members.specs.Names.{Onward}
 use Rattle.names.proofs.Reading.{units_plain}
 use Rattle.names.specs.Units.{units}
 use Rattle.text.specs.Bytes.{Bytes}
-use borrow.Author.Tests.{eqb-false, eqb-true, ne_eqb, not-true}
+use borrow.Author.Tests.{eqb-true, ne_eqb}
 use lib.Dec.{eqb}
 use lib.ListN.{drop, get_or, length}
 use lib.Seq.{drop-cons}
-use mathlib.Core.Bool.{Bool, ◌&&◌, cond, false, false≢true, not, true}
+use mathlib.Core.Bool.{Bool, cond, false, true}
 use mathlib.Core.List.{[], ◌∷◌, tail-eq_of_cons-eq}
 use mathlib.Core.Path.{◌∙◌, ◌≡◌, refl, sym}
 use native.Mathlib.Omega.{arith}
-
--- Three tests at once.
-all_three : (a b c : Bool) → a && b && c ≡ true → (a ≡ true) × (b ≡ true) × (c ≡ true)
-all_three true true c e = (refl, refl, e)
-all_three true false c e = absurd (false≢true e)
-all_three false b c e = absurd (false≢true e)
 
 -- Names whose first bytes differ differ, if neither byte is a backslash.
 module _ (x y : ℕ) (s t : Bytes) (n : x ≡ y → ⊥) (p : x ≡ code "\\" → ⊥) (q : y ≡ code "\\" → ⊥) where
@@ -33,25 +27,19 @@ module _ (x y : ℕ) (s t : Bytes) (n : x ≡ y → ⊥) (p : x ≡ code "\\" �
   first_differ h =
       first_by (eqb x (code "\"")) (eqb y (code "\"")) refl refl (simp (ne_eqb x (code "\\") p, ne_eqb y (code "\\") q) at h)
 
+-- What `get` says of the byte that it finds.
+abbrev pub Read : Bytes → ℕ → ℕ → Type 0
+Read t i x = (i < length t) × ((d : ℕ) → x ≡ get_or t i d)
+
 -- The same of the names behind two quotes.
-pub names_differ : (t : Bytes) (i j : ℕ) → i < length t → j < length t
-    → (not (eqb (get_or t i 0) (get_or t j 0)) && not (eqb (get_or t i 0) (code "\\"))) && not (eqb (get_or t j 0) (code "\\")) ≡ true
+pub names_differ : (t : Bytes) (i j x y : ℕ) → Read t i x → Read t j y → (x ≡ y → ⊥) → (x ≡ code "\\" → ⊥) → (y ≡ code "\\" → ⊥)
     → units (drop i t) ≡ units (drop j t) → ⊥
-names_differ t i j h k e =
-    let x = get_or t i 0 in
-    let y = get_or t j 0 in
-    let three = all_three (not (eqb x y)) (not (eqb x (code "\\"))) (not (eqb y (code "\\"))) e in
-    rw (drop-cons t i 0, drop-cons t j 0)
-    (first_differ x y (drop (suc i) t) (drop (suc j) t) (eqb-false _ _ (not-true _ three.0)) (eqb-false _ _ (not-true _ three.1)) (eqb-false _ _ (not-true _ three.2)))
+names_differ t i j x y (h, e) (k, f) n p q =
+    rw (drop-cons t i 0, drop-cons t j 0, ← e 0, ← f 0) (first_differ x y (drop (suc i) t) (drop (suc j) t) n p q)
 
 -- Names that begin with the same plain byte differ if the rest of them does.
-pub begin_alike : (t : Bytes) (i j : ℕ) → i < length t → j < length t
-    → (eqb (get_or t i 0) (get_or t j 0) && not (eqb (get_or t i 0) (code "\""))) && not (eqb (get_or t i 0) (code "\\")) ≡ true → Onward t i j
-begin_alike t i j h k e f z =
-    let x = get_or t i 0 in
-    let three = all_three (eqb x (get_or t j 0)) (not (eqb x (code "\""))) (not (eqb x (code "\\"))) e in
-    let same : get_or t j 0 ≡ x = sym (eqb-true x (get_or t j 0) three.0) in
-    let quote : x ≡ code "\"" → ⊥ = eqb-false _ _ (not-true _ three.1) in
-    let slash : x ≡ code "\\" → ⊥ = eqb-false _ _ (not-true _ three.2) in
-    let b = units_plain t j k (λ p. quote (sym same ∙ p)) (λ p. slash (sym same ∙ p)) in
-    f (tail-eq_of_cons-eq (sym (units_plain t i h quote slash) ∙ z ∙ b))
+pub begin_alike : (t : Bytes) (i j x y : ℕ) → Read t i x → Read t j y → x ≡ y → (x ≡ code "\"" → ⊥) → (x ≡ code "\\" → ⊥) → Onward t i j
+begin_alike t i j x y (h, e) (k, f) same quote slash g z =
+    let a = units_plain t i h (rw (e 0) at quote) (rw (e 0) at slash) in
+    let b = units_plain t j k (rw (same, f 0) at quote) (rw (same, f 0) at slash) in
+    g (tail-eq_of_cons-eq (sym a ∙ z ∙ b))

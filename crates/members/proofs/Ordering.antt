@@ -4,10 +4,13 @@ use Rattle.members.proofs.Sorting.{Transitive}
 use Rattle.members.specs.Names.{ahead, before}
 use Rattle.names.proofs.Order.{order_equal, order_flip, order_refl, order_trans}
 use Rattle.names.specs.Order.{order}
+use Rattle.std.proofs.Common.{Equal, Greater, Less, Ordering}
+use Rattle.std.proofs.lemmas.Bool.Decides.{nat_tests}
+use Rattle.std.specs.Ordering.{is_ge, is_lt, nat_cmp, ordering_index, ordering_then}
 use Rattle.text.specs.Bytes.{Units}
 use borrow.Author.Tests.{eq-eqb, eqb-false, eqb-true, lt-ltb, ltb-false, ltb-true, ne_eqb}
 use lib.Dec.{eqb, ltb}
-use mathlib.Core.Bool.{Bool, false, false≢true, true}
+use mathlib.Core.Bool.{Bool, false, false≢true, true, true≢false}
 use mathlib.Core.Logic.{◌⊎◌, inl, inr, ⊎_elim}
 use mathlib.Core.Path.{◌∙◌, ◌≡◌, refl, sym}
 use native.Mathlib.Omega.{arith}
@@ -30,6 +33,11 @@ stand_by : (n m : ℕ) → n + m ≡ 2 → Stand n
 stand_by zero m h = Stand.first refl
 stand_by (suc zero) m h = Stand.same refl
 stand_by (suc (suc n)) m h = Stand.last (omega arith)
+
+pub index_less : (o : Ordering) {n : ℕ} → ordering_index o ≡ n → is_ge o ≡ false → n ≡ 0
+index_less Less e f = sym e
+index_less Equal e f = absurd (true≢false f)
+index_less Greater e f = absurd (true≢false f)
 
 module _ (name : ℕ → Units) (a b : ℕ) where
   stand : Stand (order (name a) (name b))
@@ -58,6 +66,12 @@ module _ (name : ℕ → Units) (a b : ℕ) where
         | same e ↦ absurd (n e)
         | last e ↦ before_last e ∙ sym (ne_eqb (order (name a) (name b)) 0 (λ f. omega (arith, e, f)))
       ]
+
+  -- Names first, then numbers.
+  pub before_then : (o : Ordering) → ordering_index o ≡ order (name a) (name b) → is_lt (ordering_then o (nat_cmp a b)) ≡ before name a b
+  before_then Less e = sym (before_first (sym e))
+  before_then Equal e = rw (before_same (sym e)) (grind (arith, nat_tests))
+  before_then Greater e = sym (before_last (sym e))
 
   ahead_first : ahead name a b ≡ true → order (name a) (name b) ≡ 0
   unfolding ahead

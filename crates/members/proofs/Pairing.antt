@@ -1,83 +1,87 @@
 -- The first repeat, found by looking at one sibling after the other.
 use Prim.Native.Nat.{◌<◌, ◌≤◌, ℕ}
-use Rattle.members.proofs.Earliness.{Distinct, earliest_none}
-use Rattle.members.proofs.Lineage.{siblings_append, siblings_between, siblings_one, siblings_onward, siblings_unique}
-use Rattle.members.proofs.Membership.{in_either, in_left, in_none, in_right, in_single}
+use Rattle.members.proofs.Lineage.{siblings_between}
+use Rattle.members.proofs.Membership.{in_cases, in_equal, in_none}
 use Rattle.members.proofs.RowLaws.{row_front, row_seats}
+use Rattle.members.proofs.Walking.{all_before, all_in, at_in}
 use Rattle.members.specs.Lists.{In}
-use Rattle.members.specs.Names.{Named, name_of}
-use Rattle.members.specs.Records.{next_of}
+use Rattle.members.specs.Names.{Named}
+use Rattle.members.specs.Repeats.{Earliest}
 use Rattle.members.specs.Rows.{Row}
-use Rattle.members.specs.Searches.{Earliest, Seen}
+use Rattle.members.specs.Searches.{Seen}
 use Rattle.members.specs.Siblings.{Siblings}
+use Rattle.std.specs.List.{AllWithin, HoldsAt}
+use Rattle.std.specs.Prelude.{MatchOption, None, Option, Some}
 use Rattle.text.specs.Bytes.{Bytes, Units}
 use Rattle.text.specs.Table.{Words}
-use mathlib.Core.Bool.{false, true}
-use mathlib.Core.List.{List, [], ◌++◌, ◌∷◌}
+use borrow.Author.Tests.{ltb-false, ltb-true}
+use lib.Dec.{ltb}
+use lib.ListN.{length}
+use mathlib.Core.Bool.{Bool, false, true}
+use mathlib.Core.List.{List, [], ◌∷◌}
 use mathlib.Core.Logic.{⊎_elim}
-use mathlib.Core.Path.{◌∙◌, ◌≡◌, ap, refl}
+use mathlib.Core.Path.{◌≡◌, refl, sym}
 use native.Mathlib.Omega.{arith}
 
--- The siblings before `r` have different names.
-pub record Pairing (name : ℕ → Units) (w : Words) (first end r : ℕ) : Type 0 where
-  pub done : List ℕ
+-- The siblings before `y`, which is one of `l`.
+record Before (w : Words) (end first y : ℕ) (l : List ℕ) : Type 0 where
+  pub front : List ℕ
   pub rest : List ℕ
-  pub front : Siblings w r first done
-  pub back : Siblings w end r rest
-  pub distinct : Distinct name done
+  pub ahead : Siblings w y first front
+  pub behind : Siblings w end y rest
+  pub only : (x : ℕ) → In x front → In x l
+  pub all : (x : ℕ) → In x l → x < y → In x front
 
-pub pair_start : {name : ℕ → Units} {w : Words} {first end : ℕ} {l : List ℕ} → Siblings w end first l → Pairing name w first end first
-pair_start {l = l} s =
-    record { done = []; rest = l; front = Siblings.none; back = s; distinct = λ x y i. absurd (in_none i) }
+before_it : {w : Words} {end first y : ℕ} {l : List ℕ} → Siblings w end first l → In y l → Before w end first y l
+before_it (Siblings.more {r} {l} h s) In.here =
+    record {
+      front = [];
+      rest = r ∷ l;
+      ahead = Siblings.none;
+      behind = Siblings.more h s;
+      only = λ x i. absurd (in_none i);
+      all = λ x i g. absurd (omega (arith, g, (siblings_between (Siblings.more h s) i).0));
+    }
+before_it (Siblings.more {r} h s) (In.there i) =
+    let b = before_it s i in
+    record {
+      front = r ∷ b.front;
+      rest = b.rest;
+      ahead = Siblings.more h b.ahead;
+      behind = b.behind;
+      only = λ x k. ⊎_elim (λ e. in_equal _ e) (λ m. In.there (b.only x m)) (in_cases k);
+      all = λ x k g. ⊎_elim (λ e. in_equal _ e) (λ m. In.there (b.all x m g)) (in_cases k);
+    }
+before_it Siblings.none i = elim i [ ]
 
--- What a row gives while its siblings are looked at.
-module _ {t : Bytes} {w : Words} {first end : ℕ} (row : Row t w first end) where
-  pub pair_front : {r : ℕ} → Pairing (name_of t w) w first end r → Row t w first r
-  pair_front p = row_front row p.front p.back
+-- What a row gives of each of its siblings.
+pub row_before : {t : Bytes} {w : Words} {first end : ℕ} (row : Row t w first end) (r : ℕ) → In r row.members → Row t w first r × Named t w r
+row_before row r i =
+    let b = before_it row.siblings i in
+    (row_front row b.ahead b.behind, (row_seats row row.siblings r i).1)
 
-  pub pair_named : {r : ℕ} → Pairing (name_of t w) w first end r → r < end → Named t w r
-  pair_named {r} p h =
-      let o = siblings_onward p.back h in
-      (row_seats row (siblings_append p.front p.back) r (in_right p.done (rw o.split In.here))).1
+-- Whether one of the siblings before `r` has its name.
+abbrev pub Tells : (ℕ → Units) → Words → ℕ → Bool → ℕ → Type 0
+Tells name w first z r = (m : List ℕ) → Siblings w r first m → Seen name m r z
 
-module _ {name : ℕ → Units} {w : Words} {first end r : ℕ} (p : Pairing name w first end r) where
-  distinct_one : Seen name p.done r false → Distinct name (p.done ++ (r ∷ []))
-  distinct_one s x y i j h e =
-      ⊎_elim
-      (λ b. ⊎_elim (λ a. p.distinct x y a b h e) (λ a. omega (arith, h, in_single a, (siblings_between p.front b).1)) (in_either p.done i))
-      (λ b. ⊎_elim (λ a. s.no refl x a (e ∙ ap name (in_single b))) (λ a. omega (arith, h, in_single a, in_single b)) (in_either p.done i))
-      (in_either p.done j)
+module _ (name : ℕ → Units) (w : Words) (first : ℕ) {end : ℕ} {l : List ℕ} (s : Siblings w end first l) where
+  none_before : {y : ℕ} → Tells name w first false y → (x : ℕ) → In x l → In y l → x < y → name x ≡ name y → ⊥
+  none_before f x i j h e =
+      let b = before_it s j in f b.front b.ahead x (b.all x i h) e
 
-  pub pair_turn : (q : ℕ) → r < end → Seen name p.done r false → q ≡ next_of w r → (r < q) × Pairing name w first end q
-  pair_turn q h s e =
-      let o = siblings_onward p.back h in (
-        omega (arith, e, o.up),
-        rw e record { done = p.done ++ (r ∷ []); rest = o.tail; front = siblings_one p.front o.up; back = o.siblings; distinct = distinct_one s },
-      )
-
-  all_of : (l : List ℕ) → Siblings w end first l → l ≡ p.done ++ p.rest
-  all_of l s = siblings_unique s (siblings_append p.front p.back)
-
-  -- A repeat before `r` there is none.
-  no_sooner : (x y : ℕ) → In x (p.done ++ p.rest) → In y (p.done ++ p.rest) → x < y → name x ≡ name y → r ≤ y
-  no_sooner x y i j h e =
-      ⊎_elim
-      (λ b.
-      let k = (siblings_between p.front b).1 in
-      ⊎_elim (λ a. absurd (p.distinct x y a b h e)) (λ a. absurd (omega (arith, (siblings_between p.back a).0))) (in_either p.done i))
-      (λ b. (siblings_between p.back b).0)
-      (in_either p.done j)
-
-  pub pair_found : r < end → Seen name p.done r true → (l : List ℕ) → Siblings w end first l → Earliest name l end r
-  pair_found h s l k =
-      let o = siblings_onward p.back h in
-      let y = s.yes refl in
-      rw (all_of l k) record {
-        most = omega arith;
-        least = no_sooner;
-        real = λ g. (in_right p.done (rw o.split In.here), (y.0, in_left p.rest y.1, (siblings_between p.front y.1).1, y.2));
+  pub pairs_found : (z : Option ℕ)
+      → MatchOption z (AllWithin (Tells name w first false) l 0 (length l)) (λ r. Tells name w first true r × (k : ℕ) × (k < length l) × HoldsAt (λ y. y ≡ r) l k × AllWithin (Tells name w first false) l 0 k)
+      → Earliest name l z
+  pairs_found None f = λ x y i j. none_before (all_in (Tells name w first false) l f y j) x i j
+  pairs_found (Some z) (g, k, h, e, f) =
+      let i = at_in l k z h (sym (e z)) in
+      let b = before_it s i in
+      let y = g b.front b.ahead in
+      record {
+        least = λ x y i j. later x y i j (ltb y z) refl;
+        real = (i, (y.0, b.only y.0 y.1, (siblings_between b.ahead y.1).1, y.2));
       }
-
-  pub pair_end : end ≤ r → (l : List ℕ) → Siblings w end first l → Earliest name l end end
-  pair_end h l k =
-      rw (all_of l k) (earliest_none name end (λ x y i j g e. omega (arith, h, no_sooner x y i j g e, (siblings_between {v = y} k (rw (all_of l k) j)).1)))
+    where
+      later : (x y : ℕ) → In x l → In y l → (c : Bool) → ltb y z ≡ c → x < y → name x ≡ name y → z ≤ y
+      later x y i j true c o n = absurd (none_before (all_before (Tells name w first false) s k z e f y j (ltb-true y z c)) x i j o n)
+      later x y i j false c o n = omega (arith, ltb-false y z c)

@@ -1,18 +1,17 @@
 -- The first repeat among records is the first among their quotes, since numbers and quotes ascend together.
 use Prim.Native.Nat.{◌<◌, ◌≤◌, ℕ}
-use Rattle.members.proofs.Earliness.{earliest_none, earliest_one}
-use Rattle.members.proofs.Lineage.{siblings_between, siblings_onward, siblings_shut}
+use Rattle.members.proofs.Earliness.{distinct_one}
+use Rattle.members.proofs.Lineage.{siblings_onward, siblings_shut}
 use Rattle.members.proofs.Membership.{in_cases, in_none}
 use Rattle.members.proofs.RowLaws.{row_in}
 use Rattle.members.specs.Lists.{In}
 use Rattle.members.specs.Names.{name_at, name_of}
 use Rattle.members.specs.Records.{next_of, word}
-use Rattle.members.specs.Repeats.{FirstRepeat}
+use Rattle.members.specs.Repeats.{Distinct, Repeated}
 use Rattle.members.specs.Rows.{Row, named}
-use Rattle.members.specs.Searches.{Earliest}
 use Rattle.members.specs.Siblings.{Siblings}
 use Rattle.text.specs.Bytes.{Bytes}
-use Rattle.text.specs.Table.{Words, unnamed}
+use Rattle.text.specs.Table.{Words}
 use borrow.Author.Tests.{ltb-false, ltb-true}
 use lib.Dec.{ltb}
 use mathlib.Core.Bool.{Bool, false, true}
@@ -61,39 +60,38 @@ module _ {t : Bytes} {w : Words} {first end : ℕ} (row : Row t w first end) {l 
   keeps x y false e i j h =
       let d : x ≡ y = omega (arith, ltb-false x y e) in omega (arith, ap (λ (r : ℕ). word w r 2) d)
 
-  module _ {z : ℕ} (p : Earliest (name_of t w) l end z) where
-    -- A repeat among the quotes is one among the records.
-    repeat_at : {x y : ℕ} (a : Owner w l x) (b : Owner w l y) → x < y → name_at t x ≡ name_at t y → z ≤ b.owner
-    unfolding name_of
-    repeat_at a b h e =
-        p.least a.owner b.owner a.member b.member
-        (reflects a.owner b.owner (ltb a.owner b.owner) refl a.member b.member (omega (arith, h, a.at, b.at)))
-        (ap (name_at t) (sym a.at) ∙ e ∙ ap (name_at t) b.at)
+  module _ {x y : ℕ} (a : Owner w l x) (b : Owner w l y) where
+    owners_rise : x < y → a.owner < b.owner
+    owners_rise h = reflects a.owner b.owner (ltb a.owner b.owner) refl a.member b.member (omega (arith, h, a.at, b.at))
 
-    pub repeat_none : end ≤ z → FirstRepeat t (named w l) unnamed
-    repeat_none h =
-        record {
-          most = omega arith;
-          least = λ x y i j g e. let b = owner_of l j in absurd (omega (arith, h, repeat_at (owner_of l i) b g e, (siblings_between s b.member).1));
-          real = λ g. absurd (omega arith);
-        }
-
-    pub repeat_some : (q : ℕ) → z < end → q ≡ word w z 2 → q ≤ unnamed → FirstRepeat t (named w l) q
+    owners_alike : name_at t x ≡ name_at t y → name_of t w a.owner ≡ name_of t w b.owner
     unfolding name_of
-    repeat_some q h f small =
-        let r = p.real h in
-        record {
-          most = small;
-          least = λ x y i j g e. let b = owner_of l j in omega (arith, f, b.at, keeps z b.owner (ltb z b.owner) refl r.0 b.member (repeat_at (owner_of l i) b g e));
-          real = λ g. rw f (quote_in w r.0, (word w r.1.0 2, quote_in w r.1.1, rising r.1.0 z r.1.1 r.0 r.1.2, r.1.3));
-        }
+    owners_alike e = ap (name_at t) (sym a.at) ∙ e ∙ ap (name_at t) b.at
+
+  pub quotes_distinct : Distinct (name_of t w) l → Distinct (name_at t) (named w l)
+  quotes_distinct p x y i j h e =
+      let a = owner_of l i in
+      let b = owner_of l j in
+      p a.owner b.owner a.member b.member (owners_rise a b h) (owners_alike a b e)
+
+  pub quote_repeated : {z q : ℕ} → Repeated (name_of t w) l z → q ≡ word w z 2 → Repeated (name_at t) (named w l) q
+  unfolding name_of
+  quote_repeated {z} p f =
+      let r = p.real in
+      record {
+        least = λ x y i j h e.
+            let a = owner_of l i in
+            let b = owner_of l j in
+            let k = p.least a.owner b.owner a.member b.member (owners_rise a b h) (owners_alike a b e) in
+            omega (arith, f, b.at, keeps z b.owner (ltb z b.owner) refl r.0 b.member k);
+        real = rw f (quote_in w r.0, (word w r.1.0 2, quote_in w r.1.1, rising r.1.0 z r.1.1 r.0 r.1.2, r.1.3));
+      }
 
   -- No sibling and one.
-  pub repeat_empty : end ≤ first → FirstRepeat t (named w l) unnamed
-  repeat_empty h =
-      repeat_none {z = end} (rw (siblings_shut s h) (earliest_none (name_of t w) end (λ x y i. absurd (in_none i)))) (omega arith)
+  pub quotes_none : end ≤ first → Distinct (name_at t) (named w l)
+  quotes_none h = quotes_distinct (rw (siblings_shut s h) (λ x y i. absurd (in_none i)))
 
-  pub repeat_single : first < end → end ≤ next_of w first → FirstRepeat t (named w l) unnamed
-  repeat_single h k =
+  pub quotes_one : first < end → end ≤ next_of w first → Distinct (name_at t) (named w l)
+  quotes_one h k =
       let o = siblings_onward s h in
-      repeat_none {z = end} (rw (o.split, siblings_shut o.siblings k) (earliest_one (name_of t w) first end)) (omega arith)
+      quotes_distinct (rw (o.split, siblings_shut o.siblings k) (distinct_one (name_of t w) first))

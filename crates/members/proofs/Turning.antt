@@ -1,13 +1,13 @@
 -- An order and the same turned round.
-use Prim.Native.Nat.{◌+◌, ◌<◌, ℕ}
+use Prim.Native.Nat.{◌<◌, ℕ}
 use Rattle.members.proofs.Ordering.{before_strict, before_total, before_trans}
 use Rattle.members.proofs.Sorting.{Transitive}
+use Rattle.members.specs.declared.chain.Chain.{Chain}
 use Rattle.members.specs.Merging.{Picked, turned}
 use Rattle.members.specs.Names.{before}
 use Rattle.text.specs.Bytes.{Units}
 use mathlib.Core.Bool.{Bool, false, not, true}
 use mathlib.Core.Path.{◌≡◌, refl, sym}
-use native.Mathlib.Omega.{arith}
 
 -- Turned round twice.
 pub turned_not : (lt : ℕ → ℕ → Bool) (u : Bool) → (λ x y. turned u lt y x) ≡ turned (not u) lt
@@ -32,24 +32,11 @@ module _ (name : ℕ → Units) where
   turned_total false a b h n = before_total name b a h (λ e. n (sym e))
 
 -- The chain that goes on.
-module _ (lt : ℕ → ℕ → Bool) (x i y j : ℕ) where
-  pub picked_second : 0 < i + j → i ≡ 0 → Picked lt x i y j false
-  unfolding Picked
-  picked_second h e = (omega arith, λ p. absurd (omega arith))
-
-  pub picked_first : (i ≡ 0 → ⊥) → j ≡ 0 → Picked lt x i y j true
-  unfolding Picked
-  picked_first h e = (omega arith, λ p. absurd (omega arith))
-
-  pub picked_lesser : (i ≡ 0 → ⊥) → (j ≡ 0 → ⊥) → (z : Bool) → z ≡ lt x y → Picked lt x i y j z
-  unfolding Picked
-  picked_lesser h k true e = (omega arith, λ p. sym e)
-  picked_lesser h k false e = (omega arith, λ p. sym e)
-
-  pub first_picked : (z : Bool) → Picked lt x i y j z → z ≡ true → (0 < i) × (0 < j → lt x y ≡ true)
+module _ (lt : ℕ → ℕ → Bool) (x y : Chain) where
+  pub first_picked : (z : Bool) → Picked lt x y z → z ≡ true → (0 < x.count) × (0 < y.count → lt x.head y.head ≡ true)
   unfolding Picked
   first_picked z p e = rw e at p
 
-  pub second_picked : (z : Bool) → Picked lt x i y j z → z ≡ false → (0 < j) × (0 < i → lt x y ≡ false)
+  pub second_picked : (z : Bool) → Picked lt x y z → z ≡ false → (0 < y.count) × (0 < x.count → lt x.head y.head ≡ false)
   unfolding Picked
   second_picked z p e = rw e at p

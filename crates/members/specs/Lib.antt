@@ -2,6 +2,7 @@
 pub mod Records
 pub mod Lists
 pub mod Siblings
+pub mod Walking
 pub mod Names
 pub mod Links
 pub mod Rows

@@ -1,6 +1,7 @@
 -- Two sorted chains made one.
 use Rattle.std.specs.Prelude.{◌<◌, ℕ, Bool, false, true, List, ◌++◌, ◌≡◌}
 use Rattle.members.specs.Chains.{Seats}
+use Rattle.members.specs.declared.chain.Chain.{Chain}
 use Rattle.members.specs.Lists.{In, Sorted}
 use Rattle.text.specs.Bytes.{Bytes}
 use Rattle.text.specs.Table.{Words}
@@ -10,10 +11,10 @@ unfoldable pub turned : Bool → (ℕ → ℕ → Bool) → ℕ → ℕ → Bool
 turned true lt a b = lt a b
 turned false lt a b = lt b a
 
--- Of two chains, of `i` records from `x` on and of `j` from `y` on, the first goes on if `z`: its head comes first.
-unfoldable pub Picked : (ℕ → ℕ → Bool) → ℕ → ℕ → ℕ → ℕ → Bool → Type 0
-Picked lt x i y j true = (0 < i) × (0 < j → lt x y ≡ true)
-Picked lt x i y j false = (0 < j) × (0 < i → lt x y ≡ false)
+-- Of two chains the first goes on if `z`: its head comes first.
+unfoldable pub Picked : (ℕ → ℕ → Bool) → Chain → Chain → Bool → Type 0
+Picked lt x y true = (0 < x.count) × (0 < y.count → lt x.head y.head ≡ true)
+Picked lt x y false = (0 < y.count) × (0 < x.count → lt x.head y.head ≡ false)
 
 -- The chains `a` and `b` can be merged.
 pub record Ready (lt : ℕ → ℕ → Bool) (t : Bytes) (w : Words) (a b : List ℕ) : Type 0 where

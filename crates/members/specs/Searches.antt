@@ -1,21 +1,15 @@
--- What the searches for a repeated name find, said of records.
-use Rattle.std.specs.Prelude.{◌<◌, ◌≤◌, ℕ, Bool, false, true, List, ◌⊎◌, ◌≡◌}
+-- What the parts of the search for a repeated name find, said of records.
+use Rattle.std.specs.Prelude.{ℕ, eqb, min, Bool, cond, false, true, List, Option, Some, ◌≡◌}
+use Rattle.std.specs.Option.{option_map_or}
 use Rattle.members.specs.Lists.{In}
+use Rattle.names.specs.Order.{order}
 use Rattle.text.specs.Bytes.{Units}
 
--- `z` is the least of the records `l` whose name is that of a lesser one, or `end` where there is none.
-pub record Earliest (name : ℕ → Units) (l : List ℕ) (end z : ℕ) : Type 0 where
-  pub most : z ≤ end
-  pub least : (x y : ℕ) → In x l → In y l → x < y → name x ≡ name y → z ≤ y
-  pub real : z < end → In z l × ((x : ℕ) × In x l × (x < z) × (name x ≡ name z))
+-- One of `l` has the name of `r`, or none has.
+abbrev pub Seen : (ℕ → Units) → List ℕ → ℕ → Bool → Type 0
+Seen name l r true = (x : ℕ) × In x l × (name x ≡ name r)
+Seen name l r false = (x : ℕ) → In x l → name x ≡ name r → ⊥
 
--- `z` says whether one of `l` has the name of `r`.
-pub record Seen (name : ℕ → Units) (l : List ℕ) (r : ℕ) (z : Bool) : Type 0 where
-  pub yes : z ≡ true → (x : ℕ) × In x l × (name x ≡ name r)
-  pub no : z ≡ false → (x : ℕ) → In x l → name x ≡ name r → ⊥
-
--- `z` is the lesser of `best` and `q` where `p` and `q` have the same name, else `best`.
-pub record Better (name : ℕ → Units) (best p q z : ℕ) : Type 0 where
-  pub most : z ≤ best
-  pub least : name p ≡ name q → z ≤ q
-  pub real : (z ≡ best) ⊎ ((z ≡ q) × (name p ≡ name q))
+-- The lesser of `best` and `q` where `p` and `q` have the same name, else `best`.
+abbrev pub better : (ℕ → Units) → Option ℕ → ℕ → ℕ → Option ℕ
+better name best p q = cond (eqb (order (name p) (name q)) 1) (Some (option_map_or (λ b. min b q) best q)) best

@@ -30,9 +30,5 @@ pub fn order(text: &[u8], table: &mut [u32], first: usize, end: usize) -> Chain
             count: n,
         };
     }
-    let c = sort(text, table, true, first, n);
-    Chain {
-        head: c.head,
-        count: n,
-    }
+    sort(text, table, true, first, n).chain
 }

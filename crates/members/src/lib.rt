@@ -13,3 +13,4 @@ pub mod record;
 pub mod repeat;
 pub mod siblings;
 pub mod sort;
+pub mod walk;

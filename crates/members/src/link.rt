@@ -1,5 +1,5 @@
 // Links between records, kept above the offsets in words 0 and 1.
-ghost use Rattle.std.specs.Prelude.{◌≤◌, ℕ, ◌≡◌};
+ghost use Rattle.std.specs.Prelude.{◌≤◌, ℕ, cond, ◌≡◌};
 ghost use Rattle.members.specs.Chains.{siblings_of};
 ghost use Rattle.members.specs.Links.{Laid, link_of, with_link};
 ghost use Rattle.members.specs.Lists.{In};
@@ -14,6 +14,7 @@ pub const LOW_PART: usize = 2097152;
 const LINK_PART: usize = 2048;
 
 // The link of record `r`.
+#[tactic(auto, unfolding(crate::specs::Links::link_of))]
 pub fn link(table: &[u32], r: usize) -> usize
     requires { Room table.now r }
     ensures { result ≡ link_of table.now r }
@@ -22,6 +23,7 @@ pub fn link(table: &[u32], r: usize) -> usize
 }
 
 // Sets the link of record `r` to `v`.
+#[tactic(auto, unfolding(crate::specs::Links::with_link))]
 pub fn set_link(table: &mut [u32], r: usize, v: usize)
     requires { Room table.old r × (v ≤ max_records) }
     ensures { table.new ≡ with_link table.old r v }
@@ -32,19 +34,25 @@ pub fn set_link(table: &mut [u32], r: usize, v: usize)
     table[RECORD_WORDS * r + 1] = b as u32;
 }
 
+// Sets the links of the `n` siblings from `first` on: to the next one if `along`, else to 0.
+fn lay(table: &mut [u32], along: bool, first: usize, n: usize)
+    requires { (v : ℕ) → In v (siblings_of table.old n first) → Room table.old v × (cond along (next_of table.old v) 0 ≤ max_records) }
+    ensures laid { Laid (λ v. cond along (next_of table.old v) 0) (siblings_of table.old n first) table.old table.new }
+{
+    let mut r = first;
+    for _ in 0..n {
+        let z = next(table, r);
+        set_link(table, r, if along { z } else { 0 });
+        r = z;
+    }
+}
+
 // Takes the links of the `n` siblings from `first` on away.
 pub fn clear(table: &mut [u32], first: usize, n: usize)
     requires { (v : ℕ) → In v (siblings_of table.old n first) → Room table.old v }
     ensures cleared { Laid (λ _. 0) (siblings_of table.old n first) table.old table.new }
 {
-    let mut r = first;
-    let mut i = n;
-    while 0 < i {
-        let z = next(table, r);
-        set_link(table, r, 0);
-        r = z;
-        i -= 1;
-    }
+    lay(table, false, first, n);
 }
 
 // Links the `n` siblings from `first` on as they stand.
@@ -52,12 +60,5 @@ pub fn link_along(table: &mut [u32], first: usize, n: usize)
     requires { (v : ℕ) → In v (siblings_of table.old n first) → Room table.old v × (next_of table.old v ≤ max_records) }
     ensures linked { Laid (next_of table.old) (siblings_of table.old n first) table.old table.new }
 {
-    let mut r = first;
-    let mut i = n;
-    while 0 < i {
-        let z = next(table, r);
-        set_link(table, r, z);
-        r = z;
-        i -= 1;
-    }
+    lay(table, true, first, n);
 }

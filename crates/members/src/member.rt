@@ -1,16 +1,20 @@
 // The names of two records, compared.
+#![tactic(auto, unfolding(crate::specs::Names::name_of, crate::specs::Merging::turned))]
+
 ghost use Rattle.members.specs.Merging.{turned};
 ghost use Rattle.members.specs.Names.{Named, in_order, name_of};
 ghost use Rattle.names.specs.Order.{order};
+ghost use Rattle.std.specs.Ordering.{ordering_index};
 ghost use Rattle.std.specs.Prelude.{eqb, ◌≡◌};
 
 use crate::name::{compare_at, same_at};
 use crate::record::word_at;
+use std::cmp::Ordering;
 
-// 0 if the name of record `a` comes before that of `b`, 1 if they are equal, 2 if it comes behind it.
-pub fn order_of(text: &[u8], table: &[u32], a: usize, b: usize) -> u64
+// The order of the names of the records `a` and `b`.
+pub fn order_of(text: &[u8], table: &[u32], a: usize, b: usize) -> Ordering
     requires { Named text.now table.now a × Named text.now table.now b }
-    ensures { result ≡ order (name_of text.now table.now a) (name_of text.now table.now b) }
+    ensures { ordering_index result ≡ order (name_of text.now table.now a) (name_of text.now table.now b) }
 {
     compare_at(text, word_at(table, a, 2), word_at(table, b, 2))
 }
@@ -28,11 +32,7 @@ fn comes_before(text: &[u8], table: &[u32], a: usize, b: usize) -> bool
     requires { Named text.now table.now a × Named text.now table.now b }
     ensures { result ≡ in_order text.now table.now a b }
 {
-    let c = order_of(text, table, a, b);
-    if c == 1 {
-        return a < b;
-    }
-    c == 0
+    order_of(text, table, a, b).then(a.cmp(&b)).is_lt()
 }
 
 // The same, or if not `up` whether `b` comes before `a`.
@@ -41,7 +41,8 @@ pub fn in_turn(text: &[u8], table: &[u32], up: bool, a: usize, b: usize) -> bool
     ensures { result ≡ turned up (in_order text.now table.now) a b }
 {
     if up {
-        return comes_before(text, table, a, b);
+        comes_before(text, table, a, b)
+    } else {
+        comes_before(text, table, b, a)
     }
-    comes_before(text, table, b, a)
 }

@@ -8,19 +8,14 @@ ghost use Rattle.text.specs.Table.{record_words};
 
 use crate::member::order_of;
 use crate::record::next;
+use crate::walk::siblings;
 
 // How many siblings stand from `first` up to `end`.
 pub fn count(table: &[u32], first: usize, end: usize) -> usize
     requires { (record_words * end ≤ length table.now) × ((l : List ℕ) × Siblings table.now end first l) }
     ensures counted { Siblings table.now end first (siblings_of table.now result first) }
 {
-    let mut r = first;
-    let mut n: usize = 0;
-    while r < end {
-        r = next(table, r);
-        n += 1;
-    }
-    n
+    siblings(table, first, end).count()
 }
 
 // Whether the names of the `n` siblings from `first` on ascend, each strictly.
@@ -30,14 +25,12 @@ pub fn ascending(text: &[u8], table: &[u32], first: usize, n: usize) -> bool
     ensures some { result ≡ false → 1 ≤ n }
 {
     let mut p = first;
-    let mut i = n;
-    while 1 < i {
+    for _ in 1..n {
         let q = next(table, p);
-        if order_of(text, table, p, q) != 0 {
+        if order_of(text, table, p, q).is_ge() {
             return false;
         }
         p = q;
-        i -= 1;
     }
     true
 }

@@ -5,13 +5,14 @@ ghost use Rattle.members.specs.Merging.{turned};
 ghost use Rattle.members.specs.Names.{in_order};
 ghost use Rattle.members.specs.Records.{max_records, next_of};
 
+use crate::chain::Chain;
 use crate::merge::merge;
 use crate::record::next;
 
-// A chain's head, and the sibling behind the records that it has.
+// A chain, and the sibling behind its records.
 #[derive(Clone, Copy)]
 pub struct Half {
-    pub head: usize,
+    pub chain: Chain,
     pub rest: usize,
 }
 
@@ -19,23 +20,24 @@ pub struct Half {
 // half is sorted the other way, since merging turns it round.
 pub fn sort(text: &[u8], table: &mut [u32], up: bool, first: usize, n: usize) -> Half
     requires { (1 ≤ n) × (n ≤ max_records) × Free text.now table.old (siblings_of table.old n first) }
+    ensures counted { result.chain.count ≡ n }
     ensures rest { result.rest ≡ after (next_of table.old) n first }
-    ensures sorted { Linked (turned up (in_order text.now table.old)) table.old (siblings_of table.old n first) table.new (chain_of table.new n result.head) }
+    ensures sorted { Linked (turned up (in_order text.now table.old)) table.old (siblings_of table.old n first) table.new (chain_of table.new n result.chain.head) }
 {
     if n == 1 {
         return Half {
-            head: first,
+            chain: Chain {
+                head: first,
+                count: n,
+            },
             rest: next(table, first),
         };
     }
     let m = n / 2;
     let a = sort(text, table, !up, first, m);
-    let middle = a.rest;
-    let b = sort(text, table, !up, middle, n - m);
-    let left = a.head;
-    let right = b.head;
+    let b = sort(text, table, !up, a.rest, n - m);
     Half {
-        head: merge(text, table, !up, left, m, right, n - m),
+        chain: merge(text, table, !up, a.chain, b.chain),
         rest: b.rest,
     }
 }

@@ -1,7 +1,5 @@
 -- The laws that the functions' proofs cite, and what other crates may rely on.
 pub mod Order
-pub mod Escapes
 pub mod Reading
 pub mod Runs
-pub mod Comparing
 pub mod Spelling

@@ -1,13 +1,15 @@
 -- What each byte does to the units of a name, and to where it closes.
 use Prim.Native.Char.{code}
-use Prim.Native.Nat.{ℕ, ◌+◌, ◌<◌, ◌≤◌}
-use Rattle.names.specs.Steps.{Passed, StepAt, end_code}
+use Prim.Native.Nat.{ℕ, min, ◌+◌, ◌<◌, ◌≤◌}
+use Rattle.names.specs.Steps.{StepAt}
 use Rattle.names.specs.Units.{closing, escaped, hexed, skipping, units}
+use Rattle.names.specs.declared.unit.Unit.{Unit}
+use Rattle.std.proofs.lemmas.List.{drop-drop, drop_more, take_rest}
+use Rattle.std.specs.Prelude.{None, Option, Some}
 use Rattle.text.specs.Bytes.{Bytes, Units, escape_unit}
 use Rattle.text.specs.Strings.{hex_unit}
 use borrow.Author.Tests.{eq-eqb, ne_eqb}
 use lib.ListN.{drop, drop_of_length-le, get_or, length, length-drop}
-use lib.Seq.{drop-cons}
 use mathlib.Core.List.{[], ◌∷◌}
 use mathlib.Core.Path.{◌∙◌, ◌≡◌, ap, refl}
 use native.Mathlib.Numerals.{add-one}
@@ -27,55 +29,50 @@ module _ (t : Bytes) (i : ℕ) (h : length t ≤ i) where
   unfolding closing
   closing_end p = rw (drop_of_length-le t h)
 
-pub drop_to : (t : Bytes) (i j : ℕ) → j ≡ i + 1 → i < length t → drop i t ≡ get_or t i 0 ∷ drop j t
-drop_to t i j e h = rw (e, add-one, drop-cons t i 0)
-
-drop_next : (t : Bytes) (i : ℕ) → i < length t → drop i t ≡ get_or t i 0 ∷ drop (i + 1) t
-drop_next t i = drop_to t i (i + 1) refl
-
 -- The byte that stands at `i`.
 module _ (t : Bytes) (i : ℕ) (h : i < length t) where
   pub units_quote : get_or t i 0 ≡ code "\"" → units (drop i t) ≡ []
   unfolding units
-  units_quote e = rw (drop_next t i h) (simp (eq-eqb _ _ e))
+  units_quote e = rw (drop_more t i 0 h) (simp (eq-eqb _ _ e))
 
   pub units_slash : get_or t i 0 ≡ code "\\" → units (drop i t) ≡ escaped (drop (i + 1) t)
   unfolding units
-  units_slash e = rw (drop_next t i h, e)
+  units_slash e = rw (drop_more t i 0 h, e)
 
   pub units_plain : (get_or t i 0 ≡ code "\"" → ⊥) → (get_or t i 0 ≡ code "\\" → ⊥) → units (drop i t) ≡ get_or t i 0 ∷ units (drop (i + 1) t)
   unfolding units
-  units_plain q r = rw (drop_next t i h) (simp (ne_eqb _ _ q, ne_eqb _ _ r))
+  units_plain q r = rw (drop_more t i 0 h) (simp (ne_eqb _ _ q, ne_eqb _ _ r))
 
   pub escaped_u : get_or t i 0 ≡ code "u" → escaped (drop i t) ≡ hexed (drop (i + 1) t)
   unfolding escaped
-  escaped_u e = rw (drop_next t i h, e)
+  escaped_u e = rw (drop_more t i 0 h, e)
 
   pub escaped_short : (get_or t i 0 ≡ code "u" → ⊥) → escaped (drop i t) ≡ escape_unit (get_or t i 0) ∷ units (drop (i + 1) t)
   unfolding escaped
-  escaped_short f = rw (drop_next t i h) (simp (ne_eqb _ _ f))
+  escaped_short f = rw (drop_more t i 0 h) (simp (ne_eqb _ _ f))
 
-  pub closing_quote : get_or t i 0 ≡ code "\"" → (p : ℕ) → closing p (drop i t) ≡ p
+  pub closing_quote : (p : ℕ) → get_or t i 0 ≡ code "\"" → closing p (drop i t) ≡ p
   unfolding closing
-  closing_quote e p = rw (drop_next t i h, e)
+  closing_quote p e = rw (drop_more t i 0 h, e)
 
-  pub passed_plain : (get_or t i 0 ≡ code "\\" → ⊥) → Passed t i (i + 1)
+  pub closing_plain : (p : ℕ) → (get_or t i 0 ≡ code "\"" → ⊥) → (get_or t i 0 ≡ code "\\" → ⊥) → closing p (drop i t) ≡ closing (p + 1) (drop (i + 1) t)
   unfolding closing
-  passed_plain f =
-      record { onward = omega arith; bound = omega arith; same = λ q. rw (drop_next t i h) (simp (ne_eqb _ _ q, ne_eqb _ _ f, add-one)) }
+  closing_plain p q r = rw (drop_more t i 0 h) (simp (ne_eqb _ _ q, ne_eqb _ _ r, add-one))
 
-  pub passed_last : get_or t i 0 ≡ code "\\" → length t ≤ i + 1 → Passed t i (i + 1)
+  -- A backslash and the byte behind it, or the end.
+  closing_pair : i + 1 < length t → get_or t i 0 ≡ code "\\" → closing i (drop i t) ≡ closing (i + 1 + 1) (drop (i + 1 + 1) t)
   unfolding closing skipping
-  passed_last e l =
-      record { onward = omega arith; bound = omega arith; same = λ q. rw (drop_next t i h, e, drop_of_length-le t l, add-one) }
+  closing_pair l e = rw (drop_more t i 0 h, e, drop_more t (i + 1) 0 l) (ap (λ p. closing p (drop (i + 1 + 1) t)) (omega arith))
 
-  pub passed_slash : get_or t i 0 ≡ code "\\" → i + 1 < length t → Passed t i (i + 1 + 1)
+  closing_last : length t ≤ i + 1 → get_or t i 0 ≡ code "\\" → closing i (drop i t) ≡ closing (i + 1) (drop (i + 1) t)
   unfolding closing skipping
-  passed_slash e l =
-      record { onward = omega arith; bound = omega arith; same = λ q. rw (drop_next t i h, e, drop_next t (i + 1) l) (ap (λ p. closing p (drop (i + 1 + 1) t)) (omega arith)) }
+  closing_last l e = rw (drop_more t i 0 h, e, drop_of_length-le t l, add-one)
+
+  pub closing_slash : get_or t i 0 ≡ code "\\" → let j = min (length t) (i + 2) in closing i (drop i t) ≡ closing j (drop j t)
+  closing_slash e = grind (arith, closing_pair, closing_last)
 
 -- Behind `\u`: four digits or fewer.
-few : (s : Bytes) → length s < 4 → hexed s ≡ []
+pub few : (s : Bytes) → length s < 4 → hexed s ≡ []
 unfolding hexed
 few [] l = refl
 few (a ∷ []) l = refl
@@ -83,25 +80,24 @@ few (a ∷ b ∷ []) l = refl
 few (a ∷ b ∷ c ∷ []) l = refl
 few (a ∷ b ∷ c ∷ d ∷ s) l = absurd (omega arith)
 
-module _ (t : Bytes) (i : ℕ) where
-  pub hexed_few : length t < i + 4 → hexed (drop i t) ≡ []
-  hexed_few l = few (drop i t) (rw (length-drop i t) (omega arith))
+four : (s : Bytes) → 4 ≤ length s → hexed s ≡ hex_unit (get_or s 0 0) (get_or s 1 0) (get_or s 2 0) (get_or s 3 0) ∷ units (drop 4 s)
+unfolding hexed
+four [] l = absurd (omega arith)
+four (a ∷ []) l = absurd (omega arith)
+four (a ∷ b ∷ []) l = absurd (omega arith)
+four (a ∷ b ∷ c ∷ []) l = absurd (omega arith)
+four (a ∷ b ∷ c ∷ d ∷ s) l = refl
 
-  pub hexed_four : i + 4 ≤ length t → hexed (drop i t) ≡ hex_unit (get_or t i 0) (get_or t (i + 1) 0) (get_or t (i + 2) 0) (get_or t (i + 3) 0) ∷ units (drop (i + 4) t)
-  unfolding hexed
-  hexed_four l =
-      let e₃ = drop_to t (i + 3) (i + 4) (omega arith) (omega arith) in
-      let e₂ = drop_to t (i + 2) (i + 3) (omega arith) (omega arith) in
-      let e₁ = drop_to t (i + 1) (i + 2) (omega arith) (omega arith) in
-      rw (drop_to t i (i + 1) refl (omega arith), e₁, e₂, e₃)
+pub hexed_four : (t : Bytes) (i : ℕ) → i + 4 ≤ length t → let s = drop i t in hexed s ≡ hex_unit (get_or s 0 0) (get_or s 1 0) (get_or s 2 0) (get_or s 3 0) ∷ units (drop (i + 4) t)
+hexed_four t i l = rw (← drop-drop 4 i t) (four (drop i t) (rw (length-drop i t) (omega arith)))
 
--- The step that a reading makes.
-module _ {f : Bytes → Units} {t : Bytes} {i : ℕ} where
-  pub step_none : {next : ℕ} → f (drop i t) ≡ [] → StepAt f t i end_code next
-  step_none e = record { none = λ x. e; some = λ x. absurd (x refl) }
+-- What stands behind a byte that stands for no unit.
+pub step_on : (f g : Bytes → Units) (t : Bytes) (i : ℕ) (o : Option Unit) → f (drop i t) ≡ g (drop (i + 1) t) → StepAt g t (i + 1) o → StepAt f t i o
+step_on f g t i None e s = e ∙ s
+step_on f g t i (Some u) e s = (e ∙ s.0, omega (arith, s.1), s.2, s.3)
 
-  pub step_some : {c next : ℕ} → f (drop i t) ≡ c ∷ units (drop next t) → i < next → next ≤ length t → c < end_code → StepAt f t i c next
-  step_some e h k l = record { none = λ x. absurd (omega arith); some = λ x. (e, h, k, l) }
+-- What the reading of a unit needs.
+pub ruleset reading = (units_end, units_quote, units_slash, units_plain, escaped_end, escaped_u, escaped_short, few, hexed_four, step_on, take_rest, length-drop)
 
-  pub step_on : {g : Bytes → Units} {c next : ℕ} → f (drop i t) ≡ g (drop (i + 1) t) → StepAt g t (i + 1) c next → StepAt f t i c next
-  step_on e s = record { none = λ x. e ∙ s.none x; some = λ x. let (d, h, k, l) = s.some x in (e ∙ d, omega arith, k, l) }
+-- What the search for the closing quote needs.
+pub ruleset closes = (closing_end, closing_quote, closing_plain, closing_slash)

@@ -1,25 +1,10 @@
 // The beginning that two names share as they are written.
+#![tactic(auto, using(crate::proofs::Runs::runs), unfolding(crate::specs::Steps::all))]
+
 ghost use Rattle.std.specs.Prelude.{length, true, ◌≡◌, ◌+◌, ◌<◌, ◌≤◌};
 ghost use Rattle.names.specs.Steps.{Alike, all, equal_at, other_at};
 
-// The lesser of `a` and `b`.
-fn lesser(a: usize, b: usize) -> usize
-    ensures { (result ≤ a) × (result ≤ b) }
-{
-    if a < b {
-        return a;
-    }
-    b
-}
-
-// Whether `a` and `b` have the same byte at `i`, one that stands for itself in a name.
-fn same_at(a: &[u8], b: &[u8], i: usize) -> bool
-    requires { (i < length a.now) × (i < length b.now) }
-    ensures alike { result ≡ true → Alike a.now b.now i (i + 1) }
-{
-    let x = a[i];
-    (x == b[i]) & !(x == b'"') & !(x == b'\\')
-}
+use scan::eights::eights;
 
 // Whether the eight bytes of `a` and `b` from `i` on are equal.
 fn equal_eight(a: &[u8], b: &[u8], i: usize) -> bool
@@ -41,14 +26,14 @@ fn eight_without(a: &[u8], i: usize, x: u8) -> bool
     requires { i + 8 ≤ length a.now }
     ensures { result ≡ all (other_at a.now x) i 8 }
 {
-    !(a[i] == x)
-        & !(a[i + 1] == x)
-        & !(a[i + 2] == x)
-        & !(a[i + 3] == x)
-        & !(a[i + 4] == x)
-        & !(a[i + 5] == x)
-        & !(a[i + 6] == x)
-        & !(a[i + 7] == x)
+    (a[i] != x)
+        & (a[i + 1] != x)
+        & (a[i + 2] != x)
+        & (a[i + 3] != x)
+        & (a[i + 4] != x)
+        & (a[i + 5] != x)
+        & (a[i + 6] != x)
+        & (a[i + 7] != x)
 }
 
 // Whether `a` and `b` have eight equal bytes from `i` on that stand for themselves. Equality, which fails
@@ -57,39 +42,18 @@ fn eight(a: &[u8], b: &[u8], i: usize) -> bool
     requires { (i + 8 ≤ length a.now) × (i + 8 ≤ length b.now) }
     ensures alike { result ≡ true → Alike a.now b.now i (i + 8) }
 {
-    if !equal_eight(a, b, i) {
-        return false;
-    }
-    eight_without(a, i, b'"') & eight_without(a, i, b'\\')
-}
-
-// The length, a multiple of eight and at most `n`, of a beginning that `a` and `b` share, of bytes that
-// stand for themselves.
-fn eights(a: &[u8], b: &[u8], n: usize) -> usize
-    requires { (n ≤ length a.now) × (n ≤ length b.now) }
-    ensures { (result ≤ n) × Alike a.now b.now 0 result }
-{
-    let mut i = 0;
-    while 8 <= n - i {
-        if !eight(a, b, i) {
-            return i;
-        }
-        i += 8;
-    }
-    i
+    equal_eight(a, b, i) && eight_without(a, i, b'"') & eight_without(a, i, b'\\')
 }
 
 // The length of the beginning that `a` and `b` share, of bytes that stand for themselves.
 pub fn alike(a: &[u8], b: &[u8]) -> usize
     ensures { (result ≤ length a.now) × (result ≤ length b.now) × Alike a.now b.now 0 result }
 {
-    let n = lesser(a.len(), b.len());
-    let mut i = eights(a, b, n);
-    while i < n {
-        if !same_at(a, b, i) {
+    let n = a.len().min(b.len());
+    for i in eights(0, n, |i| eight(a, b, i))..n {
+        if a[i] != b[i] || a[i] == b'"' || a[i] == b'\\' {
             return i;
         }
-        i += 1;
     }
-    i
+    n
 }

@@ -9,5 +9,5 @@ use reader::answer::Answer;
 pub fn find(text: &[u8], table: &mut [u32], pointer: &[u8]) -> Answer
     ensures finder { Finder text.now table.old pointer.now (answer_of result) table.new }
 {
-    find_text(text, table, pointer)
+    find_text(text, table, pointer).into()
 }

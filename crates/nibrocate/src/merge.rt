@@ -16,5 +16,5 @@ pub fn merge(
 ) -> Answer
     ensures merger { Merger target.now target_table.old patch.now patch_table.old out.old (answer_of result) target_table.new patch_table.new out.new }
 {
-    merge_text(target, target_table, patch, patch_table, out)
+    merge_text(target, target_table, patch, patch_table, out).into()
 }

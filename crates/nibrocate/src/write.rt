@@ -10,5 +10,5 @@ use writer::write::write_text;
 pub fn write(text: &[u8], table: &mut [u32], out: &mut [u8]) -> Answer
     ensures writer { Writer text.now table.old out.old (answer_of result) table.new out.new }
 {
-    write_text(text, table, out)
+    write_text(text, table, out).into()
 }

@@ -2,6 +2,7 @@
 use Prim.Native.Nat.{◌≤◌, ℕ}
 use Rattle.entries.proofs.Readings.{ready_text}
 use Rattle.entries.specs.Answer.{Read, Reading, Writing}
+use Rattle.entries.specs.Answer as entry
 use Rattle.entries.specs.Entries.{Merger}
 use Rattle.meaning.proofs.Demand2.{canonical_of, merge_keeps, merge_six_times}
 use Rattle.meaning.proofs.Reading.{text_keeps}
@@ -10,12 +11,12 @@ use Rattle.meaning.proofs.Sorting.{canon, sorted_canon}
 use Rattle.meaning.specs.Canonical.{Canonical, put}
 use Rattle.meaning.specs.Meaning.{mean, tree}
 use Rattle.meaning.specs.Merge.{merge}
+use Rattle.std.specs.Prelude.{Some, Ok}
 use Rattle.patch.specs.Emits.{Fits, most_bytes}
-use Rattle.patch.specs.Stands.{Old, Stands}
+use Rattle.patch.specs.Stands.{Stands}
 use Rattle.patch.specs.Walks.{Merges}
-use Rattle.reader.proofs.Answering.{ready, stopped}
-use Rattle.reader.specs.Answers.{ReadAs, answer_of}
-use Rattle.reader.specs.declared.answer.Answer.{Answer}
+use Rattle.reader.specs.Answers.{ReadAs}
+use Rattle.reader.specs.declared.answer.Input.{Input}
 use Rattle.text.specs.Bytes.{Bytes}
 use Rattle.text.specs.Node.{Node}
 use Rattle.text.specs.Table.{Words}
@@ -40,7 +41,7 @@ pub record Accepted (t p : Bytes) (w x w' x' : Words) : Type 0 where
   pub patch : Reading 2 p x (Read.ready new x')
   pub text : Bytes
   pub canonical : Canonical (mean (merge (tree old) (tree new))) text
-  pub merges : Merges t p w' x' 0 0 0 text
+  pub merges : Merges t p w' x' 0 (Some 0) 0 text
   pub few : length text ≤ most_bytes
 
 taken : {t p : Bytes} {w x w' x' : Words} (v u : Node) → Reading 1 t w (Read.ready v w') → Reading 2 p x (Read.ready u x') → Accepted t p w x w' x'
@@ -57,30 +58,18 @@ taken v u a b =
       patch = b;
       text = put r [];
       canonical = c;
-      merges = Merges.merges (Old.some (read_stands a)) (read_stands b) m refl;
+      merges = Merges.merges (read_stands a) (read_stands b) m refl;
       few = omega (arith, read_short a, read_short b, merge_six_times (ready_text a) (ready_text b) c);
     }
 
-module _ {t p : Bytes} {w x w' : Words} {a : Answer} where
-  -- The target is refused before the patch is read.
-  pub refused : (o : Bytes) → ReadAs 1 t w w' a → (a.number ≡ 0 → ⊥) → Merger t w p x o (answer_of a) w' x o
-  refused o r e = Merger.stop (stopped r e)
-
-  module _ {x' : Words} {b : Answer} where
-    pub refused_patch_lem : (o : Bytes) → ReadAs 1 t w w' a → a.number ≡ 0 → ReadAs 2 p x x' b → (b.number ≡ 0 → ⊥) → Merger t w p x o (answer_of b) w' x' o
-    refused_patch_lem o r e s f = Merger.stop_patch (ready r e).1 (stopped s f)
-
-    pub accepted : ReadAs 1 t w w' a → a.number ≡ 0 → ReadAs 2 p x x' b → b.number ≡ 0 → Accepted t p w x w' x'
-    accepted r e s f =
-        let (v, y) = ready r e in
-        let (u, z) = ready s f in
-        taken v u y z
+pub accepted : {t p : Bytes} {w x w' x' : Words} {m n : ℕ} → ReadAs Input.First t w w' (Ok m) → ReadAs Input.Second p x x' (Ok n) → Accepted t p w x w' x'
+accepted (v, e, r) (u, f, s) = taken v u r s
 
 module _ {t p : Bytes} {w x w' x' : Words} (a : Accepted t p w x w' x') {o : Bytes} where
-  pub merge_asks : (c : Bytes) × Merges t p w' x' 0 0 0 c × Fits false c o
+  pub merge_asks : (c : Bytes) × Merges t p w' x' 0 (Some 0) 0 c × Fits false c o
   merge_asks = (a.text, a.merges, record { few = a.few; room = λ e. absurd (true≢false (sym e)) })
 
-  pub merged : {r : Answer} {u y : Words} {o' : Bytes} → ((c : Bytes) → Merges t p w' x' 0 0 0 c → Writing c o (answer_of r) o') → (u ≡ w') × (y ≡ x') → Merger t w p x o (answer_of r) u y o'
+  pub merged : {r : entry.Answer} {u y : Words} {o' : Bytes} → ((c : Bytes) → Merges t p w' x' 0 (Some 0) 0 c → Writing c o r o') → (u ≡ w') × (y ≡ x') → Merger t w p x o r u y o'
   merged {r} {y = y} {o' = o'} f (g, h) =
-      subst⁻¹ (λ u. Merger t w p x o (answer_of r) u y o') g
-      (subst⁻¹ (λ y. Merger t w p x o (answer_of r) w' y o') h (Merger.done a.target a.patch a.canonical (f a.text a.merges)))
+      subst⁻¹ (λ u. Merger t w p x o r u y o') g
+      (subst⁻¹ (λ y. Merger t w p x o r w' y o') h (Merger.done a.target a.patch a.canonical (f a.text a.merges)))

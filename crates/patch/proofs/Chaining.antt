@@ -2,7 +2,7 @@
 use Prim.Native.Nat.{◌+◌, ◌≤◌, suc, zero, ℕ}
 use Rattle.entries.specs.Answer.{max_text}
 use Rattle.meaning.proofs.Keeps.{Keeps, KeepsPairs}
-use Rattle.meaning.proofs.SideBySide.{is_object}
+use Rattle.meaning.proofs.SideBySide.{is_object, nothing}
 use Rattle.meaning.proofs.Sorting.{canon}
 use Rattle.meaning.specs.Meaning.{Pairs, Tree, pairs, tree}
 use Rattle.meaning.specs.Merge.{members_of}
@@ -17,8 +17,8 @@ use Rattle.members.specs.Records.{next_of}
 use Rattle.members.specs.Rows.{Row}
 use Rattle.members.specs.Siblings.{Siblings}
 use Rattle.patch.proofs.FirstBytes.{object_opened}
-use Rattle.patch.proofs.Standing.{stands_room, stands_writes}
-use Rattle.patch.specs.Stands.{Chained, Old, Stands, no_record}
+use Rattle.patch.proofs.Standing.{stands_writes}
+use Rattle.patch.specs.Stands.{Chained, Stands}
 use Rattle.reader.specs.Tokens.{brace}
 use Rattle.text.specs.Bytes.{Bytes}
 use Rattle.text.specs.Node.{Members}
@@ -103,6 +103,11 @@ plain_chained (Tree.number y) e = Chained.none
 plain_chained (Tree.array ts) e = Chained.none
 plain_chained (Tree.object ps) e = absurd (true≢false e)
 
+-- Nothing isn't one.
+pub nothing_chained : {t : Bytes} {w : Words} {d x : ℕ} (v : Tree) → v ≡ nothing → Chained t w d 0 x (members_of v)
+unfolding is_object
+nothing_chained v e = plain_chained v (ap is_object e)
+
 -- What is one has its members.
 object_is : (v : Tree) → is_object v ≡ true → v ≡ Tree.object (members_of v)
 unfolding is_object members_of
@@ -114,14 +119,3 @@ object_is (Tree.object ps) e = refl
 
 pub stands_object : {t : Bytes} {w : Words} {r d : ℕ} {v : Tree} → Stands t w r d v → is_object v ≡ true → Stands t w r d (Tree.object (members_of v))
 stands_object {t} {w} {r} {d} {v} s e = subst (Stands t w r d) (object_is v e) s
-
--- Only nothing has no record.
-module _ {t : Bytes} {w : Words} {d : ℕ} where
-  pub old_stands : {r : ℕ} {v : Tree} → Old t w d r v → (r ≡ no_record → ⊥) → Stands t w r d v
-  old_stands (Old.some s) n = s
-  old_stands Old.none n = absurd (n refl)
-
-  pub old_nothing : {r x : ℕ} {v : Tree} → Old t w d r v → r ≡ no_record → Chained t w (d + 1) 0 x (members_of v)
-  unfolding members_of
-  old_nothing (Old.some s) e = absurd (omega (arith, (stands_room s).1))
-  old_nothing Old.none e = Chained.none

@@ -1,7 +1,7 @@
 -- Steps that write to the front of a lent output, or only count, one behind another.
 use Prim.Native.Nat.{ℕ, ◌+◌, ◌-◌, ◌≤◌}
 use Rattle.patch.specs.Emits.{Emits, Fits, rest_at}
-use Rattle.spell.proofs.Putting.{lend, lend_fits, lend_start, put_length, put_none, rest}
+use Rattle.spell.proofs.Putting.{lend, lend_fits, lend_start, put_none, rest}
 use Rattle.spell.specs.Puts.{Puts}
 use Rattle.text.specs.Bytes.{Bytes}
 use lib.ListN.{drop, length, length-append, take}
@@ -12,7 +12,7 @@ use mathlib.Core.Path.{◌∙◌, ◌≡◌, ap, ap₂, refl, subst, subst⁻¹,
 use native.Mathlib.Omega.{arith}
 
 -- A step that is on writes.
-pub emit_puts : {c o o' : Bytes} {n : ℕ} → Emits true c o n o' → Puts c o n o'
+emit_puts : {c o o' : Bytes} {n : ℕ} → Emits true c o n o' → Puts c o n o'
 emit_puts p = record { count = p.count; now = p.now }
 
 pub emit_wrote : {on : Bool} {c o o' : Bytes} {n : ℕ} → on ≡ true → Puts c o n o' → Emits on c o n o'
@@ -44,10 +44,6 @@ rest_all {k} o e =
     ap₂ take l (ap (λ i. drop i o) e) ∙ take-length o
 
 -- The laws, with the two cases apart.
-length_by : (on : Bool) {c o o₁ : Bytes} {n : ℕ} → Emits on c o n o₁ → (on ≡ true → length c ≤ length o) → length o₁ ≡ length o
-length_by true p h = put_length (emit_puts p) (h refl)
-length_by false p h = ap length p.now
-
 start_by : (on : Bool) {c o o₁ : Bytes} {n k : ℕ} → Emits on c o n o₁ → (on ≡ true → length c ≤ length o) → k ≡ rest_at on n → k ≤ length o₁
 start_by true p h e = omega (arith, e, lend_start (emit_puts p) (h refl))
 start_by false p h e = omega (arith, e)
@@ -71,9 +67,6 @@ both_by false {c = c} {o₁ = o₁} {k = k} p h e {d = d} {o₂ = o₂} q =
     }
 
 module _ {on : Bool} {c o o₁ : Bytes} {n : ℕ} (p : Emits on c o n o₁) (room : on ≡ true → length c ≤ length o) where
-  pub emit_length : length o₁ ≡ length o
-  emit_length = length_by on p room
-
   module _ {k : ℕ} (e : k ≡ rest_at on n) where
     pub rest_start : k ≤ length o₁
     rest_start = start_by on p room e
@@ -96,9 +89,6 @@ module _ (a b : Bytes) {on : Bool} {o : Bytes} (f : Fits on (a ++ b) o) where
   first_fits = fits_first a b f
 
   module _ {n k : ℕ} {o₁ : Bytes} (p : Emits on a o n o₁) (e : k ≡ rest_at on n) where
-    pub second_start : k ≤ length o₁
-    second_start = rest_start p first_fits.room e
-
     pub second_fits : Fits on b (rest k o₁)
     second_fits = rest_fits p first_fits.room e b f
 

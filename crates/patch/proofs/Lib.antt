@@ -8,6 +8,6 @@ pub mod Chaining
 pub mod Taking
 pub mod Opening
 pub mod Going
-pub mod Turning
+pub mod Walking
 pub mod Lengths
 pub mod Answering

@@ -1,14 +1,13 @@
 -- A value that stands at a record can be written, so the table has its record and the text its first byte.
-use Prim.Native.Nat.{◌%◌, ◌<◌, ◌≤◌, ℕ}
+use Prim.Native.Nat.{◌<◌, ◌≤◌, ℕ}
 use Rattle.entries.specs.Answer.{max_text}
 use Rattle.meaning.specs.Canonical.{put}
 use Rattle.meaning.specs.Meaning.{Tree}
-use Rattle.members.specs.Links.{low_part}
-use Rattle.members.specs.Records.{Room, max_records, word}
+use Rattle.members.specs.Records.{Room, max_records}
 use Rattle.patch.specs.Stands.{Stands}
 use Rattle.text.specs.Bytes.{Bytes}
 use Rattle.text.specs.Table.{Words}
-use Rattle.writer.proofs.Opening.{writes_inside, writes_room}
+use Rattle.writer.proofs.Opening.{writes_room}
 use Rattle.writer.specs.Writes.{Writes}
 use lib.ListN.{length}
 use mathlib.Core.List.{[]}
@@ -23,6 +22,3 @@ module _ {t : Bytes} {w : Words} {r d : ℕ} {v : Tree} where
 
   pub stands_room : Stands t w r d v → Room w r × (r < max_records)
   stands_room s = writes_room (stands_writes s)
-
-  pub stands_inside : Stands t w r d v → word w r 0 % low_part < length t
-  stands_inside s = writes_inside (stands_writes s)

@@ -1,5 +1,5 @@
 -- The sorted trees that records of a table stand for.
-use Rattle.std.specs.Prelude.{ℕ, suc, zero, ◌≤◌, length, ◌≡◌}
+use Rattle.std.specs.Prelude.{ℕ, suc, zero, ◌≤◌, length, Option, Some, None, ◌≡◌}
 use Rattle.entries.specs.Answer.{max_text}
 use Rattle.meaning.proofs.Keeps.{Keeps}
 use Rattle.meaning.proofs.SideBySide.{nothing}
@@ -7,7 +7,6 @@ use Rattle.meaning.proofs.Sorting.{canon}
 use Rattle.meaning.specs.Meaning.{Pairs, Tree, tree}
 use Rattle.members.specs.Links.{link_of}
 use Rattle.members.specs.Names.{Named, name_of}
-use Rattle.members.specs.Records.{max_records}
 use Rattle.text.specs.Bytes.{Bytes}
 use Rattle.text.specs.Node.{Node}
 use Rattle.text.specs.Table.{Words}
@@ -17,14 +16,10 @@ use Rattle.values.specs.Held.{Held}
 pub data Stands (t : Bytes) (w : Words) (r d : ℕ) (v : Tree) : Type 0 where
   stands : {n : Node} → length t ≤ max_text → Held t w r n → Keeps d (tree n) → canon (tree n) ≡ v → Stands t w r d v
 
--- No record has this number.
-abbrev pub no_record : ℕ
-no_record = max_records
-
 -- What a patch is merged with: the value of a record, or nothing.
-pub data Old (t : Bytes) (w : Words) (d : ℕ) : ℕ → Tree → Type 0 where
-  some : {r : ℕ} {v : Tree} → Stands t w r d v → Old t w d r v
-  none : Old t w d no_record nothing
+abbrev pub Old : Bytes → Words → ℕ → Option ℕ → Tree → Type 0
+Old t w d (Some r) v = Stands t w r d v
+Old t w d None v = v ≡ nothing
 
 -- The chain of `n` records from `h` on has these members.
 pub data Chained (t : Bytes) (w : Words) (d : ℕ) : ℕ → ℕ → Pairs → Type 0 where

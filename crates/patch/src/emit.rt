@@ -17,23 +17,18 @@ use writer::put::{put_empty, put_value};
 pub fn rest_at(on: bool, n: usize) -> usize
     ensures { result ≡ rest_at on n }
 {
-    if on {
-        return n;
-    }
-    0
+    if on { n } else { 0 }
 }
 
 // What stands before a member of an object of which `at` bytes are written.
 pub fn mark_at(at: usize) -> u8
     ensures { result ≡ mark_at at }
 {
-    if at == 0 {
-        return b'{';
-    }
-    b','
+    if at == 0 { b'{' } else { b',' }
 }
 
 // Ends an object of which `at` bytes are written; one without members is both brackets.
+#[tactic(auto, using(crate::proofs::Steps::ending))]
 pub fn emit_end(at: usize, on: bool, out: &mut [u8]) -> usize
     requires { Fits on (end_at at) out.old }
     ensures emitted { Emits on (end_at at) out.old result out.new }
@@ -51,15 +46,16 @@ pub fn emit_end(at: usize, on: bool, out: &mut [u8]) -> usize
 }
 
 // The name of record `r`, behind `mark` and before its colon.
+#[tactic(auto, using(crate::proofs::Steps::keys))]
 pub fn emit_key(text: &[u8], table: &[u32], r: usize, mark: u8, on: bool, out: &mut [u8]) -> usize
     requires { (length text.now ≤ max_text) × Named text.now table.now r × Fits on (key mark (name_of text.now table.now r)) out.old }
     ensures emitted { Emits on (key mark (name_of text.now table.now r)) out.old result out.new }
 {
-    if !on {
-        return 1 + name_length(text, table, r);
+    if on {
+        out[0] = mark;
+        return 1 + put_name(text, table, r, &mut out[1..]);
     }
-    out[0] = mark;
-    1 + put_name(text, table, r, &mut out[1..])
+    1 + name_length(text, table, r)
 }
 
 // The value of record `r`. The table is as it was.

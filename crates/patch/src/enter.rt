@@ -1,5 +1,5 @@
 // The members of a value in the order of their names: one that isn't there, or isn't an object, has none.
-ghost use Rattle.std.specs.Prelude.{◌+◌, ℕ};
+ghost use Rattle.std.specs.Prelude.{◌+◌, ◌≡◌, ℕ, MatchOption};
 ghost use Rattle.meaning.specs.Meaning.{Pairs, Tree};
 ghost use Rattle.meaning.specs.Merge.{members_of};
 ghost use Rattle.patch.specs.Stands.{Chained, Old, Stands};
@@ -9,10 +9,6 @@ ghost use Rattle.writer.specs.Entering.{Kept};
 use crate::kind::is_object;
 use members::chain::{Chain, order};
 use members::record::next;
-use reader::limits::MAX_TEXT;
-
-// The record of a value that isn't there.
-pub const NO_RECORD: usize = MAX_TEXT;
 
 // The members of the object of record `r`, linked in order.
 pub fn enter(text: &[u8], table: &mut [u32], r: usize) -> Chain
@@ -24,16 +20,13 @@ pub fn enter(text: &[u8], table: &mut [u32], r: usize) -> Chain
 }
 
 // The members of what a patch is merged with: none if that isn't an object.
-pub fn enter_old(text: &[u8], table: &mut [u32], r: usize) -> Chain
+pub fn enter_old(text: &[u8], table: &mut [u32], r: Option<usize>) -> Chain
     requires { (d : ℕ) × (v : Tree) × Old text.now table.old d r v }
     ensures chained { (d : ℕ) (v : Tree) → Old text.now table.old d r v → Chained text.now table.new (d + 1) result.count result.head (members_of v) }
-    ensures kept { Kept table.old table.new brace result.count (r + 1) }
+    ensures kept { MatchOption r (table.new ≡ table.old) (λ r. Kept table.old table.new brace result.count (r + 1)) }
 {
-    if r == NO_RECORD {
-        return Chain { head: 0, count: 0 };
+    match r {
+        Some(r) if is_object(text, table, r) => enter(text, table, r),
+        _ => Chain { head: 0, count: 0 },
     }
-    if is_object(text, table, r) {
-        return enter(text, table, r);
-    }
-    Chain { head: 0, count: 0 }
 }

@@ -1,68 +1,40 @@
 // Whose member comes next.
-ghost use Rattle.std.specs.Prelude.{◌<◌, true, ◌≡◌};
+ghost use Rattle.std.specs.Prelude.{◌<◌, ◌≡◌};
+ghost use Rattle.std.specs.Ordering.{ordering_index};
 ghost use Rattle.members.specs.Names.{Named, name_of};
 ghost use Rattle.members.specs.Records.{Room};
-ghost use Rattle.patch.specs.Turns.{fewer_if, old_of, onward_if, turn_of};
+ghost use Rattle.patch.specs.Turns.{rest_of, turn_of};
 
-use crate::enter::NO_RECORD;
+use members::chain::Chain;
 use members::link::link;
 use members::record::word_at;
 use names::compare::compare_from;
+use std::cmp::Ordering;
 
-// With `i` members of the target to come, the next at record `x`, and `j` of the patch, the next at record
-// `y`: 0 if the target's comes next, 1 if both have its name, 2 if the patch's does.
-pub fn turn(
-    target: &[u8],
-    olds: &[u32],
-    x: usize,
-    i: usize,
-    patch: &[u8],
-    news: &[u32],
-    y: usize,
-    j: usize,
-) -> u64
-    requires { (0 < i → Named target.now olds.now x) × (0 < j → Named patch.now news.now y) }
-    ensures { result ≡ turn_of i j (name_of target.now olds.now x) (name_of patch.now news.now y) }
+// With the members `a` of the target and `b` of the patch to come: `Less` if the target's comes next,
+// `Equal` if both have its name, `Greater` if the patch's does.
+pub fn turn(target: &[u8], olds: &[u32], a: Chain, patch: &[u8], news: &[u32], b: Chain) -> Ordering
+    requires { (0 < a.count → Named target.now olds.now a.head) × (0 < b.count → Named patch.now news.now b.head) }
+    ensures { ordering_index result ≡ turn_of a.count b.count (name_of target.now olds.now a.head) (name_of patch.now news.now b.head) }
 {
-    if j == 0 {
-        return 0;
+    if b.count == 0 {
+        return Ordering::Less;
     }
-    if i == 0 {
-        return 2;
+    if a.count == 0 {
+        return Ordering::Greater;
     }
-    let p = word_at(olds, x, 2) + 1;
-    let q = word_at(news, y, 2) + 1;
+    let p = word_at(olds, a.head, 2) + 1;
+    let q = word_at(news, b.head, 2) + 1;
     compare_from(target, p, patch, q)
 }
 
-// The record that the patch's member is merged with in turn `z`, where the target's next is `x`.
-pub fn old_of(z: u64, x: usize) -> usize
-    ensures { result ≡ old_of z x }
+// The chain behind the first of `c`.
+pub fn rest(table: &[u32], c: Chain) -> Chain
+    requires { Room table.now c.head × (0 < c.count) }
+    ensures { result ≡ rest_of table.now c }
 {
-    if z == 1 {
-        return x;
+    Chain {
+        head: link(table, c.head),
+        count: c.count - 1,
     }
-    NO_RECORD
-}
-
-// The record behind `x` if it had its turn, else `x`.
-pub fn onward_if(had: bool, table: &[u32], x: usize) -> usize
-    requires { had ≡ true → Room table.now x }
-    ensures { result ≡ onward_if had table.now x }
-{
-    if had {
-        return link(table, x);
-    }
-    x
-}
-
-// One less than `i` if one had its turn, else `i`.
-pub fn fewer_if(had: bool, i: usize) -> usize
-    requires { had ≡ true → 0 < i }
-    ensures { result ≡ fewer_if had i }
-{
-    if had {
-        return i - 1;
-    }
-    i
 }

@@ -1,7 +1,7 @@
 // The merge of two values. Values inside values are merged by recursion, at most 64 deep, since no text
 // opens more containers at once. If not `on`, each step only counts what it would write. `olds` is the
 // target's table, `news` the patch's.
-ghost use Rattle.std.specs.Prelude.{◌≤◌, length, [], ◌++◌, ◌≡◌};
+ghost use Rattle.std.specs.Prelude.{◌≤◌, length, Option, [], ◌++◌, ◌≡◌};
 ghost use Rattle.entries.specs.Answer.{max_text};
 ghost use Rattle.meaning.specs.Canonical.{put};
 ghost use Rattle.meaning.specs.Meaning.{Tree};
@@ -16,8 +16,10 @@ ghost use Rattle.text.specs.Ceilings.{max_depth};
 use crate::emit::{emit_end, emit_key, emit_value, mark_at, rest_at};
 use crate::enter::{enter, enter_old};
 use crate::kind::{is_null, is_object};
-use crate::turn::{fewer_if, old_of, onward_if, turn};
+use crate::turn::{rest, turn};
+use members::chain::Chain;
 use members::link::clear;
+use std::cmp::Ordering;
 
 // Writes the member of record `x` as it stands, behind `mark`.
 fn keep_member(
@@ -34,9 +36,7 @@ fn keep_member(
     ensures same { table.new ≡ table.old }
 {
     let n = emit_key(text, table, x, mark, on, out);
-    let k = rest_at(on, n);
-    let m = emit_value(text, table, x, depth, on, &mut out[k..]);
-    n + m
+    n + emit_value(text, table, x, depth, on, &mut out[rest_at(on, n)..])
 }
 
 // Writes what turn `z` gives, behind `mark`: the target's member of record `x`, or that of record `y` of
@@ -49,7 +49,7 @@ fn merge_member(
     patch: &[u8],
     news: &mut [u32],
     y: usize,
-    z: u64,
+    z: Ordering,
     mark: u8,
     depth: usize,
     on: bool,
@@ -59,68 +59,52 @@ fn merge_member(
     ensures emitted { (e : Bytes) → Takes target.now patch.now olds.old news.old depth x y z mark e → Emits on e out.old result out.new }
     ensures same { (olds.new ≡ olds.old) × (news.new ≡ news.old) }
 {
-    if z == 0 {
+    if z.is_lt() {
         return keep_member(target, olds, x, mark, depth, on, out);
     }
     if is_null(patch, news, y) {
         return 0;
     }
     let n = emit_key(patch, news, y, mark, on, out);
-    let old = old_of(z, x);
-    let k = rest_at(on, n);
-    let m = merge_value(target, olds, old, patch, news, y, depth, on, &mut out[k..]);
-    n + m
+    let old = z.is_eq().then_some(x);
+    let lent = &mut out[rest_at(on, n)..];
+    n + merge_value(target, olds, old, patch, news, y, depth, on, lent)
 }
 
-// Writes the object of the `m` members from `a` on in the target, merged with the `n` from `b` on in the
-// patch.
+// Writes the object of the members `a` of the target, merged with the members `b` of the patch.
 #[cycle(merge_member_merge_members_merge_value)]
 fn merge_members(
     target: &[u8],
     olds: &mut [u32],
-    a: usize,
-    m: usize,
+    mut a: Chain,
     patch: &[u8],
     news: &mut [u32],
-    b: usize,
-    n: usize,
+    mut b: Chain,
     depth: usize,
     on: bool,
     out: &mut [u8],
 ) -> usize
-    requires { (depth ≤ max_depth) × ((c : Bytes) × Sides target.now patch.now olds.old news.old depth m a n b c × Fits on c out.old) }
-    ensures emitted { (c : Bytes) → Sides target.now patch.now olds.old news.old depth m a n b c → Emits on c out.old result out.new }
+    requires { (depth ≤ max_depth) × ((c : Bytes) × Sides target.now patch.now olds.old news.old depth a b c × Fits on c out.old) }
+    ensures emitted { (c : Bytes) → Sides target.now patch.now olds.old news.old depth a b c → Emits on c out.old result out.new }
     ensures same { (olds.new ≡ olds.old) × (news.new ≡ news.old) }
 {
     let mut at: usize = 0;
-    let mut x = a;
-    let mut i = m;
-    let mut y = b;
-    let mut j = n;
-    while (0 < i) | (0 < j) {
-        let z = turn(target, olds, x, i, patch, news, y, j);
+    while 0 < a.count || 0 < b.count {
+        let z = turn(target, olds, a, patch, news, b);
         let mark = mark_at(at);
-        let k = rest_at(on, at);
-        at += merge_member(
-            target,
-            olds,
-            x,
-            patch,
-            news,
-            y,
-            z,
-            mark,
-            depth,
-            on,
-            &mut out[k..],
+        let lent = &mut out[rest_at(on, at)..];
+        let n = merge_member(
+            target, olds, a.head, patch, news, b.head, z, mark, depth, on, lent,
         );
-        x = onward_if(z < 2, olds, x);
-        i = fewer_if(z < 2, i);
-        y = onward_if(0 < z, news, y);
-        j = fewer_if(0 < z, j);
+        if z.is_le() {
+            a = rest(olds, a);
+        }
+        if z.is_ge() {
+            b = rest(news, b);
+        }
+        at += n;
     }
-    let k = rest_at(on, at);
-    at + emit_end(at, on, &mut out[k..])
+    at + emit_end(at, on, &mut out[rest_at(on, at)..])
 }
 
 // Writes the merge of record `x` of the target, or of nothing, with record `y` of the patch, which stand
@@ -129,7 +113,7 @@ fn merge_members(
 pub fn merge_value(
     target: &[u8],
     olds: &mut [u32],
-    x: usize,
+    x: Option<usize>,
     patch: &[u8],
     news: &mut [u32],
     y: usize,
@@ -144,14 +128,12 @@ pub fn merge_value(
     if !is_object(patch, news, y) {
         return emit_value(patch, news, y, depth, on, out);
     }
-    let c = enter_old(target, olds, x);
-    let a = c.head;
-    let m = c.count;
-    let d = enter(patch, news, y);
-    let b = d.head;
-    let n = d.count;
-    let k = merge_members(target, olds, a, m, patch, news, b, n, depth + 1, on, out);
-    clear(olds, x + 1, m);
-    clear(news, y + 1, n);
-    k
+    let a = enter_old(target, olds, x);
+    let b = enter(patch, news, y);
+    let n = merge_members(target, olds, a, patch, news, b, depth + 1, on, out);
+    if let Some(x) = x {
+        clear(olds, x + 1, a.count);
+    }
+    clear(news, y + 1, b.count);
+    n
 }

@@ -2,6 +2,7 @@
 -- container closes, a name is read.
 use Prim.Native.Nat.{ℕ, suc, ◌*◌, ◌+◌, ◌-◌, ◌<◌, ◌≤◌}
 use Rattle.members.specs.Names.{name_at}
+use Rattle.members.specs.Records.{word_of}
 use Rattle.reader.proofs.Behind.{joined}
 use Rattle.reader.proofs.Records.{begun_array_joins, begun_object_joins, begun_shut, close_record, four_more, held, marked_push, opens, put_filled, value_length, word_behind, words_array_joins, words_frame, words_length, words_object_joins, words_shut}
 use Rattle.reader.proofs.Repeated.{array_closed, array_joins, array_repeats, object_closed, object_joins, object_repeats}
@@ -9,6 +10,8 @@ use Rattle.reader.specs.Loop.{After, Framed, Inside, Laid, Said, Wants}
 use Rattle.reader.specs.Repeats.{Least, again, before, between, closed, inside_all, inside_members, deeper, repeats}
 use Rattle.reader.specs.Stacks.{Marked, Named, Quote, Spelt, back_all, back_members, begun, kind, name_of, open_of, shut_at, words}
 use Rattle.reader.specs.Tokens.{Flat, put_at}
+use Rattle.std.proofs.lemmas.Bool.{false≢true}
+use Rattle.std.specs.Prelude.{Option}
 use Rattle.text.proofs.Machine.{Frame, Stack, depth_of, names_of}
 use Rattle.text.proofs.Offsets.{end, start}
 use Rattle.text.specs.Bytes.{Bytes, Units}
@@ -59,12 +62,12 @@ module _ {t : Bytes} {w tab m : Words} {st : Stack} {d n op : ℕ} where
       (y, x)
 
 -- A value without others inside it is put behind the words written.
-pub put_value : {t : Bytes} {w tab m : Words} {st : Stack} {es : List ℕ} {d i n op first : ℕ} (tab' : Words) (v : Node) (i₀ j p nm : ℕ)
-    → Wants t w tab m st es d i n op first → Flat v i₀ j → nm ≡ name_of st → i₀ ≤ j → j ≤ length t → i ≤ p → n < p → p ≤ length t → tab' ≡ put_at tab n i₀ j nm (n + 1)
+pub put_value : {t : Bytes} {w tab m : Words} {st : Stack} {es : List ℕ} {d i n op : ℕ} {first : Option ℕ} (tab' : Words) (v : Node) (i₀ j p : ℕ) (nm : Option ℕ)
+    → Wants t w tab m st es d i n op first → Flat v i₀ j → nm ≡ name_of st → i₀ ≤ j → j ≤ length t → i ≤ p → n < p → p ≤ length t → tab' ≡ put_at tab n i₀ j (word_of nm) (n + 1)
     → After t w tab' m st v es d p (n + 1) op first
 put_value {t} {w} {tab} {m} {st} {es} {d} {i} {n} {op} {first} tab' v i₀ j p nm q f e h h' g g' b r =
     let l = q.laid in
-    let u : words st ++ (i₀ ∷ j ∷ nm ∷ (n + 1) ∷ []) ≡ words st ++ records v (name_of st) (begun st) = rw (f.words (name_of st) (begun st), e, q.count, add-one) in
+    let u : words st ++ (i₀ ∷ j ∷ word_of nm ∷ (n + 1) ∷ []) ≡ words st ++ records v (word_of (name_of st)) (begun st) = rw (f.words (word_of (name_of st)) (begun st), e, q.count, add-one) in
     record {
       laid = subst (λ ws. Laid t w tab' m st ws d p (n + 1) op) u
           (record {
@@ -74,8 +77,8 @@ put_value {t} {w} {tab} {m} {st} {es} {d} {i} {n} {op} {first} tab' v i₀ j p n
             marked = l.marked;
             bound = b;
             few = omega arith;
-            full = four_more (words st) n i₀ j nm (n + 1) l.full;
-            filled = r ∙ put_filled (words st) w tab n i₀ j nm (n + 1) l.full l.filled;
+            full = four_more (words st) n i₀ j (word_of nm) (n + 1) l.full;
+            filled = r ∙ put_filled (words st) w tab n i₀ j (word_of nm) (n + 1) l.full l.filled;
             opened = l.opened;
           });
       count = omega (arith, q.count, f.one);
@@ -87,7 +90,7 @@ put_value {t} {w} {tab} {m} {st} {es} {d} {i} {n} {op} {first} tab' v i₀ j p n
 
 -- A container that holds nothing yet, and opens at `i`.
 pub record Fresh (i : ℕ) (f : Frame) (st : Stack) : Type 0 where
-  pub written : words (f ∷ st) ≡ words st ++ (i ∷ 0 ∷ name_of st ∷ open_of st ∷ [])
+  pub written : words (f ∷ st) ≡ words st ++ (i ∷ 0 ∷ word_of (name_of st) ∷ open_of st ∷ [])
   pub one : begun (f ∷ st) ≡ begun st + 1
   pub told : between (f ∷ st) ≡ before st
   pub quiet : closed (f ∷ st) ≡ closed st
@@ -102,13 +105,13 @@ unfolding words begun back_members between closed inside_members deeper Said siz
 fresh_object i st = record { written = refl; one = refl; told = append-nil (before st); quiet = append-nil (closed st); said = λ t b h x. (h, Spelt.empty, x) }
 
 -- A container opens.
-pub open_frame : {t : Bytes} {w tab m : Words} {st : Stack} {es : List ℕ} {d i n op first : ℕ} (tab' : Words) (f : Frame) (j nm b : ℕ)
-    → Wants t w tab m st es d i n op first → Fresh i f st → nm ≡ name_of st → d < max_depth → i < length t → i < j → j ≤ length t → b ≡ kind f → tab' ≡ put_at tab n i 0 nm op
+pub open_frame : {t : Bytes} {w tab m : Words} {st : Stack} {es : List ℕ} {d i n op : ℕ} {first : Option ℕ} (tab' : Words) (f : Frame) (j : ℕ) (nm : Option ℕ) (b : ℕ)
+    → Wants t w tab m st es d i n op first → Fresh i f st → nm ≡ name_of st → d < max_depth → i < length t → i < j → j ≤ length t → b ≡ kind f → tab' ≡ put_at tab n i 0 (word_of nm) op
     → Inside t w tab' (set m d b) (f ∷ st) es (d + 1) j (n + 1) n first
 unfolding depth_of open_of
 open_frame {t} {w} {tab} {m} {st} {es} {d} {i} {n} {op} {first} tab' f j nm b q z e k h g b' c r =
     let l = q.laid in
-    let u : words st ++ (i ∷ 0 ∷ nm ∷ op ∷ []) ≡ words (f ∷ st) = rw (e, l.opened) (sym z.written) in
+    let u : words st ++ (i ∷ 0 ∷ word_of nm ∷ op ∷ []) ≡ words (f ∷ st) = rw (e, l.opened) (sym z.written) in
     record {
       laid = subst (λ ws. Laid t w tab' (set m d b) (f ∷ st) ws (d + 1) j (n + 1) n) u
           (record {
@@ -118,8 +121,8 @@ open_frame {t} {w} {tab} {m} {st} {es} {d} {i} {n} {op} {first} tab' f j nm b q 
             marked = subst⁻¹ (λ x. Marked (set m x b) (f ∷ st)) l.deep (marked_push m f st b (omega (arith, l.deep, l.marks)) c l.marked);
             bound = b';
             few = omega (arith, l.few);
-            full = four_more (words st) n i 0 nm op l.full;
-            filled = r ∙ put_filled (words st) w tab n i 0 nm op l.full l.filled;
+            full = four_more (words st) n i 0 (word_of nm) op l.full;
+            filled = r ∙ put_filled (words st) w tab n i 0 (word_of nm) op l.full l.filled;
             opened = q.count;
           });
       count = omega (arith, q.count, z.one);
@@ -129,7 +132,7 @@ open_frame {t} {w} {tab} {m} {st} {es} {d} {i} {n} {op} {first} tab' f j nm b q 
     }
 
 -- A value that is read joins its container.
-pub join : {t : Bytes} {w tab m : Words} (f : Frame) (st : Stack) (v : Node) {es : List ℕ} {d i n op first : ℕ}
+pub join : {t : Bytes} {w tab m : Words} (f : Frame) (st : Stack) (v : Node) {es : List ℕ} {d i n op : ℕ} {first : Option ℕ}
     → After t w tab m (f ∷ st) v es d i n op first → Inside t w tab m (joined f v ∷ st) es d i n op first
 unfolding joined Named Said name_of depth_of Marked kind open_of
 join {t} {w} {tab} {m} (Frame.array a vs) st v {es} {d} {i} {n} {op} {first} q =
@@ -171,11 +174,11 @@ stands t b (Frame.array a vs) st e x h = (omega (arith, x.0), h)
 stands t b (Frame.object a ms q us) st e x h = (omega (arith, x.0), h)
 
 -- The table while a container is open, and behind the two stores that close it.
-module _ {t : Bytes} {w tab m : Words} {f : Frame} {st : Stack} {es : List ℕ} {d i n op first : ℕ} (q : Inside t w tab m (f ∷ st) es d i n op first) where
+module _ {t : Bytes} {w tab m : Words} {f : Frame} {st : Stack} {es : List ℕ} {d i n op : ℕ} {first : Option ℕ} (q : Inside t w tab m (f ∷ st) es d i n op first) where
   abbrev rest : Words
   rest = held f (suc (begun st)) ++ drop (4 * n) w
 
-  open_words : tab ≡ words st ++ ((opens f ∷ 0 ∷ name_of st ∷ open_of st ∷ []) ++ rest)
+  open_words : tab ≡ words st ++ ((opens f ∷ 0 ∷ word_of (name_of st) ∷ open_of st ∷ []) ++ rest)
   open_words = q.laid.filled ∙ rw (words_frame f st) (simp append_assoc)
 
   pub opened_record : op ≡ begun st
@@ -183,13 +186,13 @@ module _ {t : Bytes} {w tab m : Words} {f : Frame} {st : Stack} {es : List ℕ} 
   opened_record = q.laid.opened
 
   around : open_of st ≡ get_or tab (4 * op + 3) 0
-  around = rw (opened_record, open_words) (sym (word_behind (words st) (opens f ∷ 0 ∷ name_of st ∷ []) rest (open_of st) (begun st) 3 (words_length st) refl))
+  around = rw (opened_record, open_words) (sym (word_behind (words st) (opens f ∷ 0 ∷ word_of (name_of st) ∷ []) rest (open_of st) (begun st) 3 (words_length st) refl))
 
-  pub shut_words : (e : ℕ) → set (set tab (4 * op + 1) e) (4 * op + 3) n ≡ words st ++ ((opens f ∷ e ∷ name_of st ∷ n ∷ []) ++ rest)
-  shut_words e = rw (opened_record, open_words) (close_record (words st) rest (begun st) (opens f) (name_of st) (open_of st) e n (words_length st))
+  pub shut_words : (e : ℕ) → set (set tab (4 * op + 1) e) (4 * op + 3) n ≡ words st ++ ((opens f ∷ e ∷ word_of (name_of st) ∷ n ∷ []) ++ rest)
+  shut_words e = rw (opened_record, open_words) (close_record (words st) rest (begun st) (opens f) (word_of (name_of st)) (open_of st) e n (words_length st))
 
   -- A container closes, and `first` becomes `first'`.
-  pub shut : (e j first' : ℕ) (tab' : Words) → tab' ≡ set (set tab (4 * op + 1) e) (4 * op + 3) n → i ≤ j → j ≤ length t → e ≤ length t
+  pub shut : (e j : ℕ) (first' : Option ℕ) (tab' : Words) → tab' ≡ set (set tab (4 * op + 1) e) (4 * op + 3) n → i ≤ j → j ≤ length t → e ≤ length t
       → Least (closed st ++ repeats (shut_at f e)) first' → After t w tab' m st (shut_at f e) es (d - 1) j n (get_or tab (4 * op + 3) 0) first'
   unfolding depth_of Marked
   shut e j first' tab' r h b c y =
@@ -204,9 +207,9 @@ module _ {t : Bytes} {w tab m : Words} {f : Frame} {st : Stack} {es : List ℕ} 
               marked = l.marked.1;
               bound = b;
               few = omega (arith, l.few);
-              full = value_length st (shut_at f e) (name_of st) n k;
-              filled = r ∙ shut_words e ∙ ap (λ l. words st ++ l) (sym (append_assoc (opens f ∷ e ∷ name_of st ∷ n ∷ []) (held f (suc (begun st))) (drop (4 * n) w)))
-                  ∙ sym (append_assoc (words st) ((opens f ∷ e ∷ name_of st ∷ n ∷ []) ++ held f (suc (begun st))) (drop (4 * n) w))
+              full = value_length st (shut_at f e) (word_of (name_of st)) n k;
+              filled = r ∙ shut_words e ∙ ap (λ l. words st ++ l) (sym (append_assoc (opens f ∷ e ∷ word_of (name_of st) ∷ n ∷ []) (held f (suc (begun st))) (drop (4 * n) w)))
+                  ∙ sym (append_assoc (words st) ((opens f ∷ e ∷ word_of (name_of st) ∷ n ∷ []) ++ held f (suc (begun st))) (drop (4 * n) w))
                   ∙ ap (λ l. l ++ drop (4 * n) w) (words_shut f st e n q.count);
               opened = sym around;
             };
@@ -218,12 +221,12 @@ module _ {t : Bytes} {w tab m : Words} {f : Frame} {st : Stack} {es : List ℕ} 
       }
 
 -- An element may come, or a name has come.
-pub element : {t : Bytes} {w tab m : Words} {a : ℕ} {vs : Nodes} {st : Stack} {es : List ℕ} {d i n op first : ℕ}
+pub element : {t : Bytes} {w tab m : Words} {a : ℕ} {vs : Nodes} {st : Stack} {es : List ℕ} {d i n op : ℕ} {first : Option ℕ}
     → Inside t w tab m (Frame.array a vs ∷ st) es d i n op first → Wants t w tab m (Frame.array a vs ∷ st) es d i n op first
 unfolding before Named Said name_of
-element q = record { laid = q.laid; count = q.count; repeated = q.repeated; least = q.least; names = q.names; room = λ f. absurd (f refl) }
+element q = record { laid = q.laid; count = q.count; repeated = q.repeated; least = q.least; names = q.names; room = λ f. absurd (false≢true f) }
 
-pub named_value : {t : Bytes} {w tab m : Words} {a x : ℕ} {ms : Members} {xs : Units} {st : Stack} {es : List ℕ} {d i n op first : ℕ} (us : Units) (p : ℕ)
+pub named_value : {t : Bytes} {w tab m : Words} {a x : ℕ} {ms : Members} {xs : Units} {st : Stack} {es : List ℕ} {d i n op : ℕ} {first : Option ℕ} (us : Units) (p : ℕ)
     → Inside t w tab m (Frame.object a ms x xs ∷ st) es d i n op first → name_at t i ≡ us → i < length t → i < p → p ≤ length t
     → Wants t w tab m (Frame.object a ms i us ∷ st) (es ++ again us (names_of ms) i) d p n op first
 unfolding before Named Said words begun depth_of Marked kind open_of closed

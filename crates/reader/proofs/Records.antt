@@ -1,5 +1,6 @@
 -- The records of what is open: how the words written change as containers open and close.
 use Prim.Native.Nat.{ℕ, suc, ◌*◌, ◌+◌, ◌<◌, ◌≤◌}
+use Rattle.members.specs.Records.{word_of}
 use Rattle.reader.specs.Stacks.{Marked, back_all, back_members, begun, kind, name_of, open_of, shut_at, words}
 use Rattle.reader.specs.Tokens.{put_at}
 use Rattle.text.proofs.Machine.{Frame, Stack, depth_of, onto_members, onto_nodes}
@@ -97,13 +98,13 @@ unfoldable pub opens : Frame → ℕ
 opens (Frame.array a vs) = a
 opens (Frame.object a ms q us) = a
 
-pub words_frame : (f : Frame) (st : Stack) → words (f ∷ st) ≡ words st ++ ((opens f ∷ 0 ∷ name_of st ∷ open_of st ∷ []) ++ held f (suc (begun st)))
+pub words_frame : (f : Frame) (st : Stack) → words (f ∷ st) ≡ words st ++ ((opens f ∷ 0 ∷ word_of (name_of st) ∷ open_of st ∷ []) ++ held f (suc (begun st)))
 unfolding words held opens
 words_frame (Frame.array a vs) st = refl
 words_frame (Frame.object a ms q us) st = refl
 
 pub words_shut : (f : Frame) (st : Stack) (e n : ℕ) → n ≡ begun (f ∷ st)
-    → words st ++ ((opens f ∷ e ∷ name_of st ∷ n ∷ []) ++ held f (suc (begun st))) ≡ words st ++ records (shut_at f e) (name_of st) (begun st)
+    → words st ++ ((opens f ∷ e ∷ word_of (name_of st) ∷ n ∷ []) ++ held f (suc (begun st))) ≡ words st ++ records (shut_at f e) (word_of (name_of st)) (begun st)
 unfolding begun records size shut_at held opens
 words_shut (Frame.array a vs) st e n h =
     let s = nodes_size vs Nodes.nil in

@@ -3,17 +3,19 @@ use Prim.Native.Nat.{ℕ, suc, ◌<◌, ◌≤◌}
 use Rattle.members.proofs.Membership.{in_either, in_left, in_none, in_right}
 use Rattle.members.specs.Lists.{In}
 use Rattle.names.specs.Units.{closing}
-use Rattle.reader.specs.Repeats.{Least, Lesser, Rising, again, before, between, closed, deeper, first_or, inside_all, inside_members, own, repeats, repeats_all, repeats_members}
+use Rattle.reader.specs.Repeats.{Least, Rising, again, before, between, closed, deeper, first_or, inside_all, inside_members, own, repeats, repeats_all, repeats_members}
+use Rattle.std.proofs.lemmas.Bool.{cases_lt}
+use Rattle.std.specs.Option.{option_map_or}
+use Rattle.std.specs.Prelude.{Option, Some, None, min}
 use Rattle.text.proofs.Machine.{Frame, Stack, names_of, onto_members, onto_nodes}
 use Rattle.text.specs.Bytes.{Bytes, Units}
 use Rattle.text.specs.Ceilings.{among}
 use Rattle.text.specs.Node.{Members, Node, Nodes}
-use Rattle.text.specs.Table.{unnamed}
 use Rattle.text.specs.Verdict.{Outcome}
 use lib.ListN.{drop}
 use mathlib.Core.Bool.{Bool, cond, false, true}
 use mathlib.Core.List.{List, [], ◌++◌, ◌∷◌, append_assoc, append-nil}
-use mathlib.Core.Logic.{◌⊎◌, inl, inr}
+use mathlib.Core.Logic.{◌⊎◌, inl, inr, ⊎_elim}
 use mathlib.Core.Path.{◌∙◌, ◌≡◌, ap, refl, subst⁻¹, sym}
 use native.Mathlib.Omega.{arith}
 
@@ -44,38 +46,40 @@ rising_again {es} {b} {c} {q} us ns r h l = by (among us ns)
     by true = rising_one r h l
     by false = subst⁻¹ (λ l. Rising l c) (append-nil es) (rising_on (omega arith) r)
 
+-- The lesser of two, of those that are there.
+abbrev pub lesser : Option ℕ → Option ℕ → Option ℕ
+lesser a None = a
+lesser a (Some q) = Some (option_map_or (λ p. min p q) a q)
+
 -- The least of two lists.
-least_both : {l m : List ℕ} (n : List ℕ) {a b c : ℕ} → Lesser a b c → Least l a → Least m b
-    → ((x : ℕ) → In x n → In x l ⊎ In x m) → ((x : ℕ) → In x l → In x n) → ((x : ℕ) → In x m → In x n) → Least n c
-least_both {l} {m} n {a} {b} {c} z p q f g h = record { most = omega (arith, z.left, p.most); least = λ x i. by x (f x i); real = λ k. chosen k z.one }
+least_both : {l m : List ℕ} (n : List ℕ) (a b : Option ℕ) → Least l a → Least m b
+    → ((x : ℕ) → In x n → In x l ⊎ In x m) → ((x : ℕ) → In x l → In x n) → ((x : ℕ) → In x m → In x n) → Least n (lesser a b)
+least_both n None None p q f g h = λ x i. ⊎_elim (p x) (q x) (f x i)
+least_both n (Some a) None p q f g h = (g a p.0, λ x i. ⊎_elim (p.1 x) (λ j. absurd (q x j)) (f x i))
+least_both n None (Some b) p q f g h = (h b q.0, λ x i. ⊎_elim (λ j. absurd (p x j)) (q.1 x) (f x i))
+least_both n (Some a) (Some b) p q f g h = (by (cases_lt a b), λ x i. ⊎_elim (λ j. omega (arith, p.1 x j)) (λ j. omega (arith, q.1 x j)) (f x i))
   where
-    by : (x : ℕ) → In x l ⊎ In x m → c ≤ x
-    by x (inl i) = omega (arith, z.left, p.least x i)
-    by x (inr i) = omega (arith, z.right, q.least x i)
+    by : (a < b) ⊎ (b ≤ a) → In (min a b) n
+    by (inl k) = let e : min a b ≡ a = omega arith in subst⁻¹ (λ x. In x n) e (g a p.0)
+    by (inr k) = let e : min a b ≡ b = omega arith in subst⁻¹ (λ x. In x n) e (h b q.0)
 
-    chosen : c < unnamed → (c ≡ a) ⊎ (c ≡ b) → In c n
-    chosen k (inl e) = subst⁻¹ (λ x. In x n) e (g a (p.real (omega arith)))
-    chosen k (inr e) = subst⁻¹ (λ x. In x n) e (h b (q.real (omega arith)))
-
--- The first name that repeats another is the least.
-pub data First (t : Bytes) (es : List ℕ) (a : Outcome) (q : ℕ) : Type 0 where
-  none : q ≡ unnamed → first_or t es a ≡ a → First t es a q
-  some : q < unnamed → first_or t es a ≡ Outcome.refused 8 (closing (suc q) (drop (suc q) t)) → First t es a q
+-- The outcome by the first name that repeats another, if there is one: it is the least.
+abbrev pub first_is : Bytes → Outcome → Option ℕ → Outcome
+first_is t a None = a
+first_is t a (Some q) = Outcome.refused 8 (closing (suc q) (drop (suc q) t))
 
 head_least : {p q : ℕ} {es : List ℕ} → ((x : ℕ) → In x es → p < x) → q ≤ p → In q (p ∷ es) → q ≡ p
 head_least f m In.here = refl
 head_least {p} {q} f m (In.there i) = let g : p < q = f q i in absurd (omega arith)
 
-pub first_least : (t : Bytes) {es : List ℕ} (a : Outcome) {b q : ℕ} → Rising es b → b ≤ unnamed → Least es q → First t es a q
+pub first_least : (t : Bytes) {es : List ℕ} (a : Outcome) {b : ℕ} (q : Option ℕ) → Rising es b → Least es q → first_or t es a ≡ first_is t a q
 unfolding first_or
-first_least t {es = []} a {q = q} r h l = First.none (none_less) refl
-  where
-    none_less : q ≡ unnamed
-    none_less = let m = l.most in let f : ¬ (q < unnamed) = λ k. in_none (l.real k) in omega arith
-first_least t {es = p ∷ es} a {q = q} (Rising.more k f r) h l =
-    let m : q ≤ p = l.least p In.here in
-    let e : q ≡ p = head_least f m (l.real (omega arith)) in
-    First.some (omega arith) (ap (λ x. Outcome.refused 8 (closing (suc x) (drop (suc x) t))) (sym e))
+first_least t {es = []} a None r l = refl
+first_least t {es = []} a (Some q) r l = absurd (in_none l.0)
+first_least t {es = p ∷ es} a None r l = absurd (l p In.here)
+first_least t {es = p ∷ es} a (Some q) (Rising.more k f r) l =
+    let e : q ≡ p = head_least f (l.1 p In.here) l.0 in
+    ap (λ x. Outcome.refused 8 (closing (suc x) (drop (suc x) t))) (sym e)
 
 -- The outcome behind two lists of names.
 pub first_append : (t : Bytes) (es fs : List ℕ) (a : Outcome) → first_or t (es ++ fs) a ≡ first_or t es (first_or t fs a)
@@ -141,8 +145,8 @@ own_inside (Members.member q us v ms) i = by (λ j. own_inside ms j) (in_either 
 own_inside Members.empty i = elim i [ ]
 
 -- So the least of all is the lesser of the least among the closed ones and the least of the object's own.
-pub object_least : (l : List ℕ) (ms : Members) {a b c : ℕ} → Lesser a b c → Least (l ++ deeper ms) a → Least (own ms) b → Least (l ++ inside_members ms) c
-object_least l ms z p q = least_both (l ++ inside_members ms) z p q (λ x i. split (in_either l i)) (λ x i. both (in_either l i)) (λ x i. in_right l (own_inside ms i))
+pub object_least : (l : List ℕ) (ms : Members) (a b : Option ℕ) → Least (l ++ deeper ms) a → Least (own ms) b → Least (l ++ inside_members ms) (lesser a b)
+object_least l ms a b p q = least_both (l ++ inside_members ms) a b p q (λ x i. split (in_either l i)) (λ x i. both (in_either l i)) (λ x i. in_right l (own_inside ms i))
   where
     further : {x : ℕ} → In x (deeper ms) ⊎ In x (own ms) → In x (l ++ deeper ms) ⊎ In x (own ms)
     further (inl j) = inl (in_right l j)

@@ -14,6 +14,7 @@ use Rattle.members.specs.Siblings.{Siblings}
 use Rattle.reader.proofs.Records.{back_members_length, word_behind}
 use Rattle.reader.specs.Repeats.{Least, again, own}
 use Rattle.reader.specs.Stacks.{Spelt, back_members}
+use Rattle.std.specs.Prelude.{Option, Some, None}
 use Rattle.text.proofs.Machine.{names_of}
 use Rattle.text.proofs.Names.{among_first, among_later, same_is}
 use Rattle.text.proofs.Offsets.{end, head_words, start}
@@ -137,7 +138,7 @@ row {t} {w} {ms} {k} e x f h g l =
       rising = x.rising;
     }
 
-pub row_repeat : {t : Bytes} {w : Words} {ms : Members} {k : ℕ} (e q : ℕ) (x : Kin t w ms k) → e ≡ k + size_members ms
+pub row_repeat : {t : Bytes} {w : Words} {ms : Members} {k : ℕ} (e : ℕ) (q : Option ℕ) (x : Kin t w ms k) → e ≡ k + size_members ms
     → ((l : List ℕ) → Siblings w e k l → FirstRepeat t (named w l) q) → FirstRepeat t (quotes ms) q
 row_repeat {t} {w} {k = k} e q x f g = subst (λ l. FirstRepeat t l q) x.quoted (g x.list (subst⁻¹ (λ e. Siblings w e k x.list) f x.chain))
 
@@ -211,10 +212,8 @@ twice_own {t} (Spelt.member {q = q} {us = us} {ms = ms} c _ _ s) i j l e = by (�
     by f l e (inr (In.there i)) j = absurd (in_none i)
 twice_own (Spelt.empty) i j l e = elim i [ ]
 
-pub own_least : {t : Bytes} {ms : Members} {b q : ℕ} → Spelt t ms b → FirstRepeat t (quotes ms) q → Least (own ms) q
-own_least {t} {ms} {q = q} s r =
-    record {
-      most = r.most;
-      least = λ x i. let (j, (y, k, l, e)) = own_twice s i in r.least y x k j l e;
-      real = λ h. let (i, (y, j, l, e)) = r.real h in twice_own s i j l e;
-    }
+pub own_least : {t : Bytes} {ms : Members} {b : ℕ} (q : Option ℕ) → Spelt t ms b → FirstRepeat t (quotes ms) q → Least (own ms) q
+own_least None s r = λ x i. let (j, (y, k, l, e)) = own_twice s i in r y x k j l e
+own_least (Some q) s r =
+    let (i, (y, j, l, e)) = r.real in
+    (twice_own s i j l e, λ x i. let (j, (y, k, l, e)) = own_twice s i in r.least y x k j l e)

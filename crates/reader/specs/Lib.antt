@@ -1,7 +1,6 @@
 -- What the reader's parts promise.
 pub mod Answers
 pub mod Loop
-pub mod Numerals
 pub mod Repeats
 pub mod Stacks
 pub mod States

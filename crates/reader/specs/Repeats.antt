@@ -1,12 +1,11 @@
 -- Which names repeat one before them in their object: the offsets of their opening quotes, in the order of the text.
-use Rattle.std.specs.Prelude.{ℕ, suc, ◌<◌, ◌≤◌, drop, cond, List, [], ◌∷◌, ◌++◌, ◌⊎◌, ◌≡◌}
+use Rattle.std.specs.Prelude.{ℕ, suc, ◌<◌, ◌≤◌, drop, cond, List, [], ◌∷◌, ◌++◌, Option, Some, None}
 use Rattle.members.specs.Lists.{In}
 use Rattle.names.specs.Units.{closing}
 use Rattle.text.proofs.Machine.{Frame, Stack, names_of}
 use Rattle.text.specs.Bytes.{Bytes, Units}
 use Rattle.text.specs.Ceilings.{among}
 use Rattle.text.specs.Node.{Members, Node, Nodes}
-use Rattle.text.specs.Table.{unnamed}
 use Rattle.text.specs.Verdict.{Outcome}
 
 -- The name `us` at `q`, behind the names `ns`.
@@ -75,14 +74,7 @@ pub data Rising : List ℕ → ℕ → Type 0 where
   none : {b : ℕ} → Rising [] b
   more : {q b : ℕ} {qs : List ℕ} → q < b → ((x : ℕ) → In x qs → q < x) → Rising qs b → Rising (q ∷ qs) b
 
--- `q` is the least of `l`, or `unnamed` where there is none.
-pub record Least (l : List ℕ) (q : ℕ) : Type 0 where
-  pub most : q ≤ unnamed
-  pub least : (x : ℕ) → In x l → q ≤ x
-  pub real : q < unnamed → In q l
-
--- `c` is the lesser of `a` and `b`.
-pub record Lesser (a b c : ℕ) : Type 0 where
-  pub left : c ≤ a
-  pub right : c ≤ b
-  pub one : (c ≡ a) ⊎ (c ≡ b)
+-- `q` is the least of `l`, or there is none.
+abbrev pub Least : List ℕ → Option ℕ → Type 0
+Least l None = (x : ℕ) → In x l → ⊥
+Least l (Some q) = In q l × ((x : ℕ) → In x l → q ≤ x)

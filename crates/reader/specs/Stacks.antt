@@ -1,6 +1,7 @@
 -- What stands in the table for the containers that are open: how table, marks and the machine's stack belong together.
-use Rattle.std.specs.Prelude.{ℕ, suc, ◌+◌, ◌<◌, ◌≤◌, get_or, length, [], ◌∷◌, ◌++◌, ◌≡◌}
+use Rattle.std.specs.Prelude.{ℕ, suc, ◌+◌, ◌<◌, ◌≤◌, get_or, length, [], ◌∷◌, ◌++◌, ◌≡◌, Option, Some, None}
 use Rattle.members.specs.Names.{name_at}
+use Rattle.members.specs.Records.{word_of}
 use Rattle.reader.specs.Tokens.{brace, bracket}
 use Rattle.text.proofs.Machine.{Frame, Stack, depth_of, onto_members, onto_nodes}
 use Rattle.text.proofs.Offsets.{end, start}
@@ -17,11 +18,11 @@ unfoldable pub Marked : Words → Stack → Type 0
 Marked m [] = Unit {0}
 Marked m (f ∷ st) = (get_or m (depth_of st) 0 ≡ kind f) × Marked m st
 
--- The name of the value that is due.
-unfoldable pub name_of : Stack → ℕ
-name_of [] = unnamed
-name_of (Frame.array a vs ∷ st) = unnamed
-name_of (Frame.object a ms q us ∷ st) = q
+-- The name of the value that is due, if it has one.
+unfoldable pub name_of : Stack → Option ℕ
+name_of [] = None
+name_of (Frame.array a vs ∷ st) = None
+name_of (Frame.object a ms q us ∷ st) = Some q
 
 -- How many records are begun, and which is that of the innermost open container.
 unfoldable pub begun : Stack → ℕ
@@ -46,8 +47,8 @@ back_members (Members.member q us v ms) k = back_members ms k ++ records v q (k 
 -- next.
 unfoldable pub words : Stack → Words
 words [] = []
-words (Frame.array a vs ∷ st) = words st ++ ((a ∷ 0 ∷ name_of st ∷ open_of st ∷ []) ++ back_all vs (suc (begun st)))
-words (Frame.object a ms q us ∷ st) = words st ++ ((a ∷ 0 ∷ name_of st ∷ open_of st ∷ []) ++ back_members ms (suc (begun st)))
+words (Frame.array a vs ∷ st) = words st ++ ((a ∷ 0 ∷ word_of (name_of st) ∷ open_of st ∷ []) ++ back_all vs (suc (begun st)))
+words (Frame.object a ms q us ∷ st) = words st ++ ((a ∷ 0 ∷ word_of (name_of st) ∷ open_of st ∷ []) ++ back_members ms (suc (begun st)))
 
 -- The opening quote of the name `us` stands at `q`, before `b`.
 pub record Quote (t : Bytes) (q : ℕ) (us : Units) (b : ℕ) : Type 0 where

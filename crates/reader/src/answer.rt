@@ -1,7 +1,25 @@
-// The answer of an entry.
+// What an entry answers: a count or a refusal, and both as 01's four numbers.
 ghost use Rattle.std.specs.Prelude.{◌≡◌, ◌≤◌};
-ghost use Rattle.reader.specs.Answers.{answered};
+ghost use Rattle.scan.specs.Refusals.{number_of, place_of};
 ghost use Rattle.text.specs.Table.{unnamed};
+
+use scan::refusal::Refusal;
+
+// Which input is refused.
+#[derive(Clone, Copy)]
+pub enum Input {
+    First = 1,
+    Second = 2,
+    Output = 3,
+}
+
+// A refusal, and of which input.
+#[derive(Clone, Copy)]
+pub struct Refused {
+    pub refusal: Refusal,
+    pub input: Input,
+    ghost small: { place_of refusal ≤ unnamed },
+}
 
 // Number, input and place of a refusal, or number 0 and the count.
 #[repr(C)]
@@ -13,28 +31,25 @@ pub struct Answer {
     pub count: u32,
 }
 
-// A refusal.
-pub fn refusal(number: u64, input: u32, place: usize) -> Answer
-    requires { (number ≤ unnamed) × (place ≤ unnamed) }
-    ensures { result ≡ answered number input place 0 }
-{
-    Answer {
-        number: number as u32,
-        input,
-        place: place as u32,
-        count: 0,
-    }
-}
+impl From<Result<u32, Refused>> for Answer {
+    ghost use Rattle.reader.specs.Answers.{answer_of, told};
 
-// Success with a count.
-pub fn success(count: usize) -> Answer
-    requires { count ≤ unnamed }
-    ensures { result ≡ answered 0 0 0 count }
-{
-    Answer {
-        number: 0,
-        input: 0,
-        place: 0,
-        count: count as u32,
+    ghost from_gives = { λ r a. answer_of a ≡ told r };
+
+    fn from(outcome: Result<u32, Refused>) -> Answer {
+        match outcome {
+            Ok(count) => Answer {
+                number: 0,
+                input: 0,
+                place: 0,
+                count,
+            },
+            Err(e) => Answer {
+                number: e.refusal.number(),
+                input: e.input as u32,
+                place: e.refusal.place() as u32,
+                count: 0,
+            },
+        }
     }
 }

@@ -1,34 +1,17 @@
 // Containers that close.
-ghost use Rattle.std.specs.Prelude.{length, ◌≡◌, ◌≤◌};
+ghost use Rattle.std.specs.Prelude.{length, ◌≤◌};
 ghost use Rattle.entries.specs.Answer.{max_text};
 ghost use Rattle.reader.specs.Loop.{Closable, ClosedAt};
-ghost use Rattle.reader.specs.Repeats.{Lesser};
 
 use crate::record::close;
 use members::repeat::first_repeat;
 
-// The record around a container that was closed, and the first repeated name of all closed objects.
+// The record around a container that was closed, and the first repeated name of all closed objects, if
+// there is one.
 #[derive(Clone, Copy)]
 pub struct Closed {
     pub around: usize,
-    pub first: usize,
-}
-
-// `q`, the same number in more bits.
-fn wide(q: u32) -> usize
-    ensures { result ≡ q }
-{
-    q as usize
-}
-
-// The lesser of `a` and `b`.
-fn lesser(a: usize, b: usize) -> usize
-    ensures { Lesser a b result }
-{
-    if a < b {
-        return a;
-    }
-    b
+    pub first: Option<usize>,
 }
 
 // Closes the record `inner` of a container with the bracket `kind` that ends at `end`, as the last of
@@ -40,7 +23,7 @@ pub fn close_at(
     end: usize,
     count: usize,
     kind: u8,
-    first: usize,
+    first: Option<usize>,
 ) -> Closed
     requires { Closable text.now table.old inner count kind first × (length text.now ≤ max_text) × (end ≤ length text.now) }
     ensures closed { ClosedAt text.now table.old table.new inner end count kind first result.around result.first }
@@ -49,9 +32,11 @@ pub fn close_at(
     if kind != b'{' {
         return Closed { around, first };
     }
-    let q = wide(first_repeat(text, table, inner + 1, count));
+    let Some(q) = first_repeat(text, table, inner + 1, count) else {
+        return Closed { around, first };
+    };
     Closed {
         around,
-        first: lesser(first, q),
+        first: Some(first.map_or(q, |p| p.min(q))),
     }
 }

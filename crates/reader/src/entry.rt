@@ -2,79 +2,73 @@
 ghost use Rattle.std.specs.Prelude.{length, ◌≡◌, ◌≤◌, ◌<◌};
 ghost use Rattle.reader.specs.Tokens.{EntryAt, brace, bracket};
 ghost use Rattle.scan.specs.Space.{Dense};
-ghost use Rattle.text.specs.Table.{unnamed};
 
-use crate::limits::UNNAMED;
 use scan::bytes::byte_at;
+use scan::refusal::Refusal;
 use scan::space::skip;
 use scan::string::string_at;
 
-// Number 0 and where the value is due, or a refusal's number and place; and the opening quote of the
-// name that was read, or `UNNAMED`.
+// The opening quote of the name that was read, if one was; and where the value is due, or a refusal.
 #[derive(Clone, Copy)]
 pub struct Entry {
-    pub number: u64,
-    pub at: usize,
-    pub name: usize,
+    pub name: Option<usize>,
+    pub due: Result<usize, Refusal>,
 }
 
 // The refusal of what stands at `i`: the text ends there, or a wrong byte stands there.
-fn missing(text: &[u8], i: usize) -> u64
-    ensures short { length text.now ≤ i → result ≡ 3 }
-    ensures wrong { i < length text.now → result ≡ 4 }
+fn missing(text: &[u8], i: usize) -> Refusal
+    ensures short { length text.now ≤ i → result ≡ Refusal.Short i }
+    ensures wrong { i < length text.now → result ≡ Refusal.Wrong i }
 {
     if text.len() <= i {
-        return 3;
+        return Refusal::Short(i);
     }
-    4
+    Refusal::Wrong(i)
 }
 
 // Reads a name whose opening quote is due in `text` at `i`, and its colon.
 fn member_at(text: &[u8], i: usize) -> Entry
-    requires { (i ≤ length text.now) × Dense text.now i × (length text.now < unnamed) }
-    ensures read { EntryAt text.now i (brace) result.number result.at result.name }
+    requires { (i ≤ length text.now) × Dense text.now i }
+    ensures read { EntryAt text.now i (brace) result.name result.due }
 {
     if byte_at(text, i) != b'"' {
         return Entry {
-            number: missing(text, i),
-            at: i,
-            name: UNNAMED,
+            name: None,
+            due: Err(missing(text, i)),
         };
     }
-    let e = string_at(text, i + 1);
-    if e.number != 0 {
-        return Entry {
-            number: e.number,
-            at: e.at,
-            name: UNNAMED,
-        };
-    }
-    let j = skip(text, e.at);
+    let at = match string_at(text, i + 1) {
+        Ok(at) => at,
+        Err(refusal) => {
+            return Entry {
+                name: None,
+                due: Err(refusal),
+            };
+        }
+    };
+    let j = skip(text, at);
     if byte_at(text, j) != b':' {
         return Entry {
-            number: missing(text, j),
-            at: j,
-            name: i,
+            name: Some(i),
+            due: Err(missing(text, j)),
         };
     }
     Entry {
-        number: 0,
-        at: skip(text, j + 1),
-        name: i,
+        name: Some(i),
+        due: Ok(skip(text, j + 1)),
     }
 }
 
 // Reads what stands in `text` at `i` before a value, in a container with the bracket `kind`.
 pub fn entry_at(text: &[u8], i: usize, kind: u8) -> Entry
-    requires { (i ≤ length text.now) × Dense text.now i × (length text.now < unnamed) × ((kind ≡ brace → ⊥) → kind ≡ bracket) }
-    ensures read { EntryAt text.now i kind result.number result.at result.name }
+    requires { (i ≤ length text.now) × Dense text.now i × ((kind ≡ brace → ⊥) → kind ≡ bracket) }
+    ensures read { EntryAt text.now i kind result.name result.due }
 {
     if kind == b'{' {
         return member_at(text, i);
     }
     Entry {
-        number: 0,
-        at: i,
-        name: UNNAMED,
+        name: None,
+        due: Ok(i),
     }
 }

@@ -6,47 +6,44 @@ ghost use Rattle.text.specs.Table.{record_words};
 
 use crate::close::close_at;
 use crate::entry::entry_at;
-use crate::limits::UNNAMED;
-use crate::value::{OPENED, value_at};
-use scan::bytes::wide;
+use crate::value::{Value, value_at};
+use scan::refusal::Refusal;
 use scan::space::skip;
 
 // The reader's state: the containers that are open, by their brackets, the outermost first. Where the
-// reading has stopped it also says with which number, 0 or a refusal's, and at which place; how many
-// records are written, and which is that of the innermost open container; the name of a value that is
-// due, and the first repeated name of the objects that are closed.
+// reading has stopped it also says what is refused, unless the text was read to its end; how many records
+// are written, and which is that of the innermost open container; the name of a value that is due, and
+// the first repeated name of the objects that are closed.
 #[derive(Clone, Copy)]
 pub struct State {
     pub depth: usize,
     pub marks: [u8; 64],
-    pub number: u64,
-    pub at: usize,
+    pub refusal: Option<Refusal>,
     pub count: usize,
     pub inner: usize,
-    pub name: usize,
-    pub first: usize,
+    pub name: Option<usize>,
+    pub first: Option<usize>,
 }
 
 // The state of a reading that has stopped.
 fn stopped(
     state: State,
-    number: u64,
-    at: usize,
-    name: usize,
+    refusal: Option<Refusal>,
+    name: Option<usize>,
     count: usize,
     inner: usize,
-    first: usize,
+    first: Option<usize>,
 ) -> State
-    ensures { result ≡ stopped_as state number at name count inner first }
+    ensures { result ≡ stopped_as state refusal name count inner first }
 {
-    let mut s = state;
-    s.number = number;
-    s.at = at;
-    s.count = count;
-    s.inner = inner;
-    s.name = name;
-    s.first = first;
-    s
+    State {
+        refusal,
+        name,
+        count,
+        inner,
+        first,
+        ..state
+    }
 }
 
 // Reads `text` and fills `table`, up to its end or to what no text has there. Names that stand twice are
@@ -59,62 +56,61 @@ pub fn fill(text: &[u8], table: &mut [u32]) -> State
     let mut state = State {
         depth: 0,
         marks: [0u8; 64],
-        number: 0,
-        at: 0,
+        refusal: None,
         count: 0,
         inner: 0,
-        name: UNNAMED,
-        first: UNNAMED,
+        name: None,
+        first: None,
     };
     let mut inner: usize = 0;
     let mut count: usize = 0;
-    let mut name: usize = UNNAMED;
-    let mut first: usize = UNNAMED;
+    let mut name: Option<usize> = None;
+    let mut first: Option<usize> = None;
     let mut due = true;
     let mut i = skip(text, 0);
     while i < text.len() {
         let b = text[i];
         let d = state.depth;
         if due {
-            let v = value_at(text, table, i, name, count, inner, d);
-            if OPENED < v.number {
-                return stopped(state, v.number, v.at, name, count, inner, first);
+            match value_at(text, table, i, name, count, inner, d) {
+                Err(e) => return stopped(state, Some(e), name, count, inner, first),
+                Ok(Value::Whole(p)) => {
+                    i = p;
+                    count += 1;
+                    due = false;
+                    continue;
+                }
+                Ok(Value::Opened(p)) => {
+                    inner = count;
+                    count += 1;
+                    state.marks[d] = b;
+                    state.depth = d + 1;
+                    let entry = entry_at(text, p, b);
+                    name = entry.name;
+                    i = match entry.due {
+                        Ok(at) => at,
+                        Err(e) => return stopped(state, Some(e), name, count, inner, first),
+                    };
+                    continue;
+                }
             }
-            let n = count;
-            i = v.at;
-            count += 1;
-            if v.number == 0 {
-                due = false;
-                continue;
-            }
-            inner = n;
-            state.marks[d] = b;
-            state.depth = d + 1;
-            let e = entry_at(text, i, b);
-            if e.number != 0 {
-                return stopped(state, e.number, e.at, e.name, count, inner, first);
-            }
-            name = e.name;
-            i = e.at;
-            continue;
         }
         if d == 0 {
-            return stopped(state, 4, i, UNNAMED, count, inner, first);
+            return stopped(state, Some(Refusal::Wrong(i)), None, count, inner, first);
         }
         let m = state.marks[d - 1];
         if b == b',' {
-            let j = skip(text, i + 1);
-            let e = entry_at(text, j, m);
-            if e.number != 0 {
-                return stopped(state, e.number, e.at, e.name, count, inner, first);
-            }
-            name = e.name;
-            i = e.at;
+            let entry = entry_at(text, skip(text, i + 1), m);
+            name = entry.name;
+            i = match entry.due {
+                Ok(at) => at,
+                Err(e) => return stopped(state, Some(e), name, count, inner, first),
+            };
             due = true;
             continue;
         }
-        if wide(b) != wide(m) + 2 {
-            return stopped(state, 4, i, UNNAMED, count, inner, first);
+        if b != m + 2 {
+            return stopped(state, Some(Refusal::Wrong(i)), None, count, inner, first);
         }
         let c = close_at(text, table, inner, i + 1, count, m, first);
         inner = c.around;
@@ -123,10 +119,10 @@ pub fn fill(text: &[u8], table: &mut [u32]) -> State
         i = skip(text, i + 1);
     }
     if due {
-        return stopped(state, 3, i, name, count, inner, first);
+        return stopped(state, Some(Refusal::Short(i)), name, count, inner, first);
     }
     if state.depth == 0 {
-        return stopped(state, 0, i, UNNAMED, count, inner, first);
+        return stopped(state, None, None, count, inner, first);
     }
-    stopped(state, 3, i, UNNAMED, count, inner, first)
+    stopped(state, Some(Refusal::Short(i)), None, count, inner, first)
 }

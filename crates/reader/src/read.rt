@@ -1,39 +1,46 @@
 // The reader.
 ghost use Rattle.reader.specs.Answers.{ReadAs};
 
-use crate::answer::{Answer, refusal, success};
+use crate::answer::{Input, Refused};
 use crate::fill::fill;
-use crate::limits::{MAX_TEXT, UNNAMED};
+use crate::limits::MAX_TEXT;
 use crate::record::clear;
 use crate::settle::settle;
 use members::record::RECORD_WORDS;
 use names::closing::closing_quote;
+use scan::refusal::Refusal;
 
-// Reads `text`, the input of that number, and fills `table` with its records. A refused text leaves
-// zeros in the words that it could have filled; where it is too long, or the table too short, the table
-// stays as it is.
-pub fn read_text(text: &[u8], table: &mut [u32], input: u32) -> Answer
+// Reads `text`, which is that input, fills `table` with its records, and gives their number. A refused
+// text leaves zeros in the words that it could have filled; where it is too long, or the table too short,
+// the table stays as it is.
+pub fn read_text(text: &[u8], table: &mut [u32], input: Input) -> Result<u32, Refused>
     ensures read { ReadAs input text.now table.old table.new result }
 {
     if MAX_TEXT < text.len() {
-        return refusal(1, input, 0);
+        return Err(Refused {
+            refusal: Refusal::Long,
+            input,
+        });
     }
     let words = RECORD_WORDS * text.len();
     if table.len() < words {
-        return refusal(2, input, 0);
+        return Err(Refused {
+            refusal: Refusal::Narrow,
+            input,
+        });
     }
     let s = fill(text, table);
-    let number = s.number;
-    let at = s.at;
-    let count = s.count;
     let first = settle(text, table, s);
-    if first == UNNAMED {
-        if number == 0 {
-            return success(count);
-        }
+    if let Some(q) = first {
         clear(table, words);
-        return refusal(number, input, at);
+        return Err(Refused {
+            refusal: Refusal::Repeated(closing_quote(text, q + 1)),
+            input,
+        });
     }
-    clear(table, words);
-    refusal(8, input, closing_quote(text, first + 1))
+    if let Some(refusal) = s.refusal {
+        clear(table, words);
+        return Err(Refused { refusal, input });
+    }
+    Ok(s.count as u32)
 }

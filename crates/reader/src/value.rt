@@ -1,7 +1,7 @@
 // Values: those that hold no others are read whole, the others are opened.
 ghost use Rattle.std.specs.Prelude.{get_or, length, false, true, ◌≡◌, ◌*◌, ◌+◌, ◌≤◌, ◌<◌};
+ghost use Rattle.members.specs.Records.{word_of};
 ghost use Rattle.reader.specs.Tokens.{ScalarAt, ValueAt, brace, bracket, opens_container};
-ghost use Rattle.reader.specs.Numerals.{refusal_of};
 ghost use Rattle.scan.specs.Numbers.{opens_number};
 ghost use Rattle.text.specs.Bytes.{is_space};
 ghost use Rattle.text.specs.Table.{record_words, unnamed};
@@ -9,51 +9,31 @@ ghost use Rattle.text.specs.Table.{record_words, unnamed};
 use crate::limits::MAX_DEPTH;
 use crate::record::put;
 use scan::bytes::{byte_at, opens_number};
-use scan::number::{Number, number_at};
-use scan::reach::Reach;
+use scan::number::number_at;
+use scan::refusal::Refusal;
 use scan::space::skip;
 use scan::string::string_at;
 use scan::word::word_at;
 
-// The number of an answer that says that a container opens.
-pub const OPENED: u64 = 1;
-
-// A refused number as a reach; any other reaches `i`.
-fn refused(g: Number, i: usize) -> Reach
-    ensures { result ≡ refusal_of g i }
-{
-    match g {
-        Number::Decimal(_) => Reach { number: 0, at: i },
-        Number::Refused(k, p) => Reach { number: k, at: p },
-    }
-}
-
-// Reads the number of `text` that begins at `i`.
-fn numeral_at(text: &[u8], i: usize) -> Reach
-    requires { (i < length text.now) × (opens_number (get_or text.now i 0) ≡ true) }
-    ensures read { ScalarAt text.now i result.number result.at }
-{
-    let g = number_at(text, i);
-    let Number::Decimal(w) = g else {
-        return refused(g, i);
-    };
-    Reach {
-        number: 0,
-        at: w.end,
-    }
+// A value that is read whole, or a container that opens and holds something, with the offset where the
+// text goes on.
+#[derive(Clone, Copy)]
+pub enum Value {
+    Whole(usize),
+    Opened(usize),
 }
 
 // Reads the literal, string or number of `text` that begins at `i`.
-fn scalar_at(text: &[u8], i: usize) -> Reach
+fn scalar_at(text: &[u8], i: usize) -> Result<usize, Refusal>
     requires { (i < length text.now) × (is_space (get_or text.now i 0) ≡ false) × (get_or text.now i 0 ≡ bracket → ⊥) × (get_or text.now i 0 ≡ brace → ⊥) }
-    ensures read { ScalarAt text.now i result.number result.at }
+    ensures read { ScalarAt text.now i result }
 {
     let b = text[i];
     if b == b'"' {
         return string_at(text, i + 1);
     }
     if opens_number(b) {
-        return numeral_at(text, i);
+        return Ok(number_at(text, i)?.end);
     }
     if b == b'n' {
         return word_at(text, i, b"null");
@@ -64,7 +44,7 @@ fn scalar_at(text: &[u8], i: usize) -> Reach
     if b == b'f' {
         return word_at(text, i, b"false");
     }
-    Reach { number: 4, at: i }
+    Err(Refusal::Wrong(i))
 }
 
 // Whether `b` opens a container.
@@ -79,31 +59,24 @@ fn container_at(
     text: &[u8],
     table: &mut [u32],
     i: usize,
-    name: usize,
+    name: Option<usize>,
     n: usize,
     around: usize,
     depth: usize,
-) -> Reach
-    requires { (i < length text.now) × (opens_container (get_or text.now i 0) ≡ true) × (length text.now < unnamed) × (record_words * n + record_words ≤ length table.old) × (n < unnamed) × (name ≤ unnamed) × (around ≤ unnamed) }
-    ensures read { ValueAt text.now table.old table.new i name n around depth result.number result.at }
+) -> Result<Value, Refusal>
+    requires { (i < length text.now) × (opens_container (get_or text.now i 0) ≡ true) × (length text.now < unnamed) × (record_words * n + record_words ≤ length table.old) × (n < unnamed) × (word_of name ≤ unnamed) × (around ≤ unnamed) }
+    ensures read { ValueAt text.now table.old table.new i name n around depth result }
 {
-    let inside = i + 1;
     if MAX_DEPTH <= depth {
-        return Reach { number: 5, at: i };
+        return Err(Refusal::Deep(i));
     }
-    let j = skip(text, inside);
+    let j = skip(text, i + 1);
     if byte_at(text, j) != text[i] + 2 {
         put(table, n, i, 0, name, around);
-        return Reach {
-            number: OPENED,
-            at: j,
-        };
+        return Ok(Value::Opened(j));
     }
     put(table, n, i, j + 1, name, n + 1);
-    Reach {
-        number: 0,
-        at: skip(text, j + 1),
-    }
+    Ok(Value::Whole(skip(text, j + 1)))
 }
 
 // Reads the value of `text` that begins at `i`, inside `depth` open containers, the innermost of which
@@ -112,25 +85,18 @@ pub fn value_at(
     text: &[u8],
     table: &mut [u32],
     i: usize,
-    name: usize,
+    name: Option<usize>,
     n: usize,
     around: usize,
     depth: usize,
-) -> Reach
-    requires { (i < length text.now) × (is_space (get_or text.now i 0) ≡ false) × (length text.now < unnamed) × (record_words * n + record_words ≤ length table.old) × (n < unnamed) × (name ≤ unnamed) × (around ≤ unnamed) }
-    ensures read { ValueAt text.now table.old table.new i name n around depth result.number result.at }
+) -> Result<Value, Refusal>
+    requires { (i < length text.now) × (is_space (get_or text.now i 0) ≡ false) × (length text.now < unnamed) × (record_words * n + record_words ≤ length table.old) × (n < unnamed) × (word_of name ≤ unnamed) × (around ≤ unnamed) }
+    ensures read { ValueAt text.now table.old table.new i name n around depth result }
 {
     if is_open(text[i]) {
         return container_at(text, table, i, name, n, around, depth);
     }
-    let e = scalar_at(text, i);
-    if e.number != 0 {
-        return e;
-    }
-    let end = e.at;
+    let end = scalar_at(text, i)?;
     put(table, n, i, end, name, n + 1);
-    Reach {
-        number: 0,
-        at: skip(text, end),
-    }
+    Ok(Value::Whole(skip(text, end)))
 }

@@ -1,9 +1,10 @@
 -- The laws that the leaves' proofs cite.
 pub mod Steps
+pub mod Over
 pub mod Spaces
 pub mod WordLaws
 pub mod StringLaws
 pub mod Numerals
 pub mod Counts
-pub mod Exponents
+pub mod Zeros
 pub mod Numbers

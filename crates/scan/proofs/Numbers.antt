@@ -1,15 +1,19 @@
 -- The number leaf's answers, part by part.
 use Prim.Native.Char.{code}
-use Prim.Native.Nat.{◌*◌, ◌+◌, ◌-◌, ◌<◌, ◌^◌, ◌≤◌, ℕ}
-use Rattle.scan.proofs.Numerals.{digit_settles, first_nonzero, first_zero, fraction_mark, mark_minus, mark_plus, minus_first, minus_short, minus_wrong, no_point, no_sign, onto_settled, onto_spoilt, point_digit, point_many, settle_fraction, sign_digit, spoilt_count, value_first, value_minus, whole_point, zero_whole}
-use Rattle.scan.proofs.Steps.{differs, fails, holds, stands}
+use Prim.Native.Nat.{◌+◌, ◌-◌, ◌<◌, ◌≤◌, ℕ}
+use Rattle.scan.proofs.Counts.{Joined}
+use Rattle.scan.proofs.Numerals.{digit_bounds, digit_settles, first_nonzero, first_zero, fraction_mark, mark_minus, mark_plus, minus_first, no_point, no_sign, onto_settled, onto_spoilt, point_digit, point_many, sign_digit, value_first, value_minus, whole_point, zero_whole}
+use Rattle.scan.proofs.Steps.{differs, stands}
 use Rattle.scan.specs.Answers.{at}
-use Rattle.scan.specs.Numbers.{NumberAt, Refusal, Unnumbered, opens_number}
-use Rattle.scan.specs.Numerals.{BehindMinus, BehindSign, DigitsAt, FractionAt, Onto, PartAt, Settled, Sound, Spoilt, WholeAt, behind_fraction, behind_mark, behind_power, behind_sign, first, written_of}
+use Rattle.scan.specs.Numbers.{NumberAt, Refused, opens_number}
+use Rattle.scan.specs.Numerals.{BehindMinus, BehindSign, DigitAt, DigitsAt, FractionAt, Onto, PartAt, Settled, Spoilt, Wanting, WholeAt, behind_decimal, behind_fraction, behind_mark, behind_point, behind_power, behind_sign, behind_whole, first}
+use Rattle.scan.specs.declared.digits.Digits.{Digits}
 use Rattle.scan.specs.declared.exponent.Mantissa.{Mantissa}
-use Rattle.scan.specs.declared.number.Number.{Number}
+use Rattle.scan.specs.declared.number.Written.{Written}
+use Rattle.scan.specs.declared.refusal.Refusal.{Refusal}
+use Rattle.std.specs.Prelude.{Err, Ok, Result}
 use Rattle.text.proofs.Digits.{and_digit}
-use Rattle.text.proofs.Machine.{Numeral, State}
+use Rattle.text.proofs.Machine.{Numeral, Stack, State}
 use Rattle.text.proofs.Tests.{is_true}
 use Rattle.text.specs.Bytes.{Bytes, is_digit, is_e}
 use Rattle.text.specs.Ceilings.{max_digits}
@@ -17,24 +21,27 @@ use borrow.Author.Tests.{eq-eqb, ne_eqb}
 use lib.Dec.{T, T_not, eqb}
 use lib.ListN.{get_or, length}
 use mathlib.Core.Bool.{Bool, false, not, true}
-use mathlib.Core.Path.{◌∙◌, ◌≡◌, ap, refl, subst, subst⁻¹, sym}
+use mathlib.Core.Path.{◌∙◌, ◌≡◌, sym}
 use native.Mathlib.Omega.{arith}
 
-pub onto_part : (t : Bytes) (s s' : Numeral) (i j : ℕ) (r : Number) → i ≤ j → Onto t s i s' j → PartAt t s' j r → PartAt t s i r
-onto_part t s s' i j (Number.Decimal w) h x y = onto_settled h x y
-onto_part t s s' i j (Number.Refused k q) h x y = onto_spoilt x y
+onto_part : (t : Bytes) (s s' : Numeral) (i j : ℕ) (r : Result Written Refusal) → i ≤ j → Onto t s i s' j → PartAt t s' j r → PartAt t s i r
+onto_part t s s' i j (Ok w) h x y = onto_settled h x y
+onto_part t s s' i j (Err e) h x y = onto_spoilt x y
 
--- An exponent's first digit, and the sign before it.
-pub sign_rest : (t : Bytes) (i : ℕ) (r : Number) (w : ℕ) → i < length t → T (is_digit (get_or t i 0)) → w ≡ get_or t i 0 - 48 → (m : Mantissa) (down : Bool) → PartAt t (behind_power m down w 1) (i + 1) r → PartAt t (behind_sign m down) i r
-sign_rest t i r w h d e m down =
-    let g : and_digit 0 (get_or t i 0) ≡ w = omega arith in
-    onto_part t _ _ i (i + 1) r (omega arith) (subst (λ x. Onto t (behind_sign m down) i (behind_power m down x 1) (i + 1)) g (sign_digit t i h d m down))
+digit_there : (t : Bytes) (i b : ℕ) → DigitAt t i (Ok b) → T (is_digit (get_or t i 0))
+digit_there t i b (h, e, d) = rw (← e) (is_true d)
+
+-- An exponent's first digit, the sign before it, and its `e`.
+pub sign_rest : (t : Bytes) (i b : ℕ) (m : Mantissa) (down : Bool) (r : Result Written Refusal) → DigitAt t i (Ok b) → PartAt t (behind_power m down (b - 48) 1) (i + 1) r → PartAt t (behind_sign m down) i r
+sign_rest t i b m down r d =
+    let g : and_digit 0 (get_or t i 0) ≡ b - 48 = omega arith in
+    onto_part t _ _ i (i + 1) r (omega arith) (rw g at (sign_digit t i d.0 (digit_there t i b d) m down))
 
 module _ (t : Bytes) (i b : ℕ) (e : b ≡ get_or t i 0) where
   sign_in : (b ≡ 0 → ⊥) → i < length t
   sign_in f = stands t i (λ g. f (e ∙ g))
 
-  pub sign_bound : {j : ℕ} → i ≤ length t → BehindSign b i j → (i ≤ j) × (j ≤ length t)
+  sign_bound : {j : ℕ} → i ≤ length t → BehindSign b i j → (i ≤ j) × (j ≤ length t)
   sign_bound h (BehindSign.plus f g) = let l = sign_in (λ z. absurd (omega arith)) in (omega arith, omega arith)
   sign_bound h (BehindSign.minus f g) = let l = sign_in (λ z. absurd (omega arith)) in (omega arith, omega arith)
   sign_bound h (BehindSign.none f f' g) = (omega arith, omega arith)
@@ -44,167 +51,93 @@ module _ (t : Bytes) (i b : ℕ) (e : b ≡ get_or t i 0) where
   to_sign m (BehindSign.minus f g) = rw (f, g) (mark_minus t i (sign_in (λ z. absurd (omega arith))) m (sym e ∙ f))
   to_sign m (BehindSign.none f f' g) = rw (ne_eqb b (code "-") f', g) (no_sign t i m (differs _ _ (λ h. f (e ∙ h))) (differs _ _ (λ h. f' (e ∙ h))))
 
-  pub mark_rest : (m : Mantissa) (r : Number) {j : ℕ} → i ≤ length t → BehindSign b i j → PartAt t (behind_sign m (eqb b (code "-"))) j r → PartAt t (behind_mark m) i r
+  pub mark_rest : (m : Mantissa) (r : Result Written Refusal) {j : ℕ} → i ≤ length t → BehindSign b i j → PartAt t (behind_sign m (eqb b (code "-"))) j r → PartAt t (behind_mark m) i r
   mark_rest m r {j} h x = onto_part t _ _ i j r (sign_bound h x).0 (to_sign m x)
 
--- An exponent or the end of the number.
-module _ (t : Bytes) (i b : ℕ) (x : Bool) (e : b ≡ get_or t i 0) (f : x ≡ is_e b) where
-  marks : x ≡ true → T (is_e (get_or t i 0))
-  marks g = subst (λ b. T (is_e b)) e (holds x (is_e b) f g)
-
-  pub tail_in : x ≡ true → i < length t
-  tail_in g = stands t i (λ z. subst (λ b. T (is_e b)) z (marks g))
-
-  module _ (m : Mantissa) (d : T (not (is_digit (get_or t i 0)))) where
-    pub tail_power : (r : Number) → x ≡ true → PartAt t (behind_mark m) (i + 1) r → PartAt t (behind_fraction m) i r
-    tail_power r g = onto_part t _ _ i (i + 1) r (omega arith) (fraction_mark t i (tail_in g) m d (marks g))
-
-    pub tail_end : Sound m → i ≤ length t → x ≡ false → (r : Number) → r ≡ Number.Decimal (written_of m false 0 i) → PartAt t (behind_fraction m) i r
-    tail_end z h g r y = subst⁻¹ (PartAt t (behind_fraction m) i) y (settle_fraction t m z i h d (subst (λ b. T (not (is_e b))) e (fails x (is_e b) f g)))
+pub tail_power : (t : Bytes) (i : ℕ) (m : Mantissa) (r : Result Written Refusal) → T (not (is_digit (get_or t i 0))) → T (is_e (get_or t i 0)) → PartAt t (behind_mark m) (i + 1) r → PartAt t (behind_fraction m) i r
+tail_power t i m r d e = onto_part t _ _ i (i + 1) r (omega arith) (fraction_mark t i (stands t i (λ z. rw z at e)) m d e)
 
 -- A refusal's number is not 0.
-pub refusal_some : {k : ℕ} → Refusal k → k ≡ 0 → ⊥
-refusal_some Refusal.short e = omega (arith, e)
-refusal_some Refusal.wrong e = omega (arith, e)
-refusal_some Refusal.digits e = omega (arith, e)
-refusal_some Refusal.power e = omega (arith, e)
+pub refusal_some : {k : ℕ} → Refused k → k ≡ 0 → ⊥
+refusal_some Refused.short e = omega (arith, e)
+refusal_some Refused.wrong e = omega (arith, e)
+refusal_some Refused.digits e = omega (arith, e)
+refusal_some Refused.power e = omega (arith, e)
 
 -- The digits behind the point.
-pub fraction_refused : {t : Bytes} {s : Bool → Numeral} {n i j d m k q : ℕ} → j ≡ q → m ≡ max_digits + k → ((neg : Bool) → Spoilt t (s neg) i k q) → FractionAt t s n i j d m
-fraction_refused e f x = record { few = λ h. absurd (refusal_some (x true).number (omega arith)); many = λ h neg. spoilt_count e f (x neg) }
+fraction_onto : (t : Bytes) (s s' : Bool → Numeral) (i j : ℕ) (d : Digits) (r : Result Digits Refusal) → i ≤ j → ((neg : Bool) → Onto t (s neg) i (s' neg) j) → FractionAt t s' j d r → FractionAt t s i d r
+fraction_onto t s s' i j d (Ok e) l x u = record { onward = omega (arith, u.onward); bound = u.bound; more = u.more; last = u.last; same = λ neg p st. x neg p st ∙ u.same neg p st }
+fraction_onto t s s' i j d (Err e) l x a = λ neg. onto_spoilt (x neg) (a neg)
 
-fraction_onto : {t : Bytes} {s s' : Bool → Numeral} {n i i' j d m : ℕ} → i ≤ i' → ((neg : Bool) → Onto t (s neg) i (s' neg) i') → FractionAt t s' n i' j d m → FractionAt t s n i j d m
-fraction_onto l x a =
-    record {
-      few = λ h. let u = a.few h in record { onward = omega (arith, u.onward); bound = u.bound; more = u.more; small = u.small; last = u.last; same = λ neg p st. x neg p st ∙ u.same neg p st };
-      many = λ h neg. onto_spoilt (x neg) (a.many h neg);
-    }
+module _ (t : Bytes) (i b : ℕ) (d x : Digits) (a : DigitAt t i (Ok b)) (j : Joined d b i x) where
+  to_fraction : (neg : Bool) → Onto t (behind_point d neg) i (behind_decimal x 1 neg) x.end
+  to_fraction neg = rw (j.0, j.1, j.2, a.1) (point_digit t i a.0 (digit_there t i b a) neg d.coefficient d.digits)
 
-module _ (t : Bytes) (i c n : ℕ) (h : i < length t) (d : T (is_digit (get_or t i 0))) (w : ℕ) (y : w ≡ get_or t i 0 - 48) where
-  to_fraction : (neg : Bool) → Onto t (Numeral.point neg c n) i (Numeral.fraction neg (10 * c + w) (n + 1) 1) (i + 1)
-  to_fraction neg p st = rw y (point_digit t i h d neg c n p st)
+  run_fraction : (r : Result Digits Refusal) → DigitsAt t x r → FractionAt t (behind_decimal x 1) x.end d r
+  run_fraction (Ok e) (u, z) =
+      let g : e.digits - d.digits ≡ 1 + (e.digits - x.digits) = omega (arith, u.more, j.2) in
+      record { onward = u.onward; bound = u.bound; more = omega (arith, u.more, j.2); last = z; same = λ neg. rw g (u.fraction neg 1) }
+  run_fraction (Err e) y = λ neg. y.1 neg 1
 
-  run_fraction : (q k m : ℕ) → DigitsAt t (i + 1) (10 * c + w) (n + 1) q k m → FractionAt t (λ neg. Numeral.fraction neg (10 * c + w) (n + 1) 1) n (i + 1) q k m
-  run_fraction q k m a =
-      record {
-        few = λ g.
-            let u = (a.few g).0 in
-            let z : m - n ≡ 1 + (m - (n + 1)) = omega (arith, u.more) in
-            record { onward = u.onward; bound = u.bound; more = omega (arith, u.more); small = u.small; last = (a.few g).1; same = λ neg. rw z (u.fraction neg 1) };
-        many = λ g neg. (a.many g).1 neg 1;
-      }
-
-  pub decimals : (q k m : ℕ) → DigitsAt t (i + 1) (10 * c + w) (n + 1) q k m → FractionAt t (λ neg. Numeral.point neg c n) n i q k m
-  decimals q k m a = fraction_onto (omega arith) to_fraction (run_fraction q k m a)
+  pub decimals : (r : Result Digits Refusal) → DigitsAt t x r → FractionAt t (behind_point d) i d r
+  decimals r y = fraction_onto t _ _ i x.end d r (omega (arith, j.0)) to_fraction (run_fraction r y)
 
 -- A point, or none.
-module _ (t : Bytes) (i c n b : ℕ) (e : b ≡ get_or t i 0) where
-  pub point_none : i ≤ length t → n ≤ max_digits → c < 10 ^ n → T (not (is_digit (get_or t i 0))) → (b ≡ code "." → ⊥) → FractionAt t (λ neg. Numeral.whole neg c n) n i i c n
-  point_none h l k d f =
-      let z : n - n ≡ 0 = omega arith in
-      record {
-        few = λ g. record { onward = omega arith; bound = h; more = omega arith; small = k; last = d; same = λ neg. rw z (no_point t i neg c n d (differs _ _ (λ g. f (e ∙ g)))) };
-        many = λ g. absurd (omega arith);
-      }
+module _ (t : Bytes) (d : Digits) (b : ℕ) (e : b ≡ get_or t d.end 0) where
+  pub point_none : d.end ≤ length t → T (not (is_digit (get_or t d.end 0))) → (b ≡ code "." → ⊥) → FractionAt t (behind_whole d) d.end d (Ok d)
+  point_none h z f =
+      let g : d.digits - d.digits ≡ 0 = omega arith in
+      record { onward = omega arith; bound = h; more = omega arith; last = z; same = λ neg. rw g (no_point t d.end neg d.coefficient d.digits z (differs _ _ (λ g. f (e ∙ g)))) }
 
   module _ (f : b ≡ code ".") where
-    pub point_in : i < length t
-    point_in = stands t i (λ g. absurd (omega arith))
+    point_in : d.end < length t
+    point_in = stands t d.end (λ g. absurd (omega arith))
 
-    pub point_full : n ≡ max_digits → (neg : Bool) → Spoilt t (Numeral.whole neg c n) i 6 i
-    point_full l neg = point_many t i point_in neg c n (sym e ∙ f) (omega arith)
+    pub point_full : d.digits ≡ max_digits → (neg : Bool) → Spoilt t (behind_whole d neg) d.end 6 d.end
+    point_full l neg = point_many t d.end point_in neg d.coefficient d.digits (sym e ∙ f) (omega arith)
 
-    pub point_rest : (q k m : ℕ) → n < max_digits → FractionAt t (λ neg. Numeral.point neg c n) n (i + 1) q k m → FractionAt t (λ neg. Numeral.whole neg c n) n i q k m
-    point_rest q k m l = fraction_onto (omega arith) (λ neg. whole_point t i point_in neg c n (sym e ∙ f) l)
+    pub point_rest : (r : Result Digits Refusal) → d.digits < max_digits → FractionAt t (behind_point d) (d.end + 1) d r → FractionAt t (behind_whole d) d.end d r
+    point_rest r l = fraction_onto t _ _ d.end (d.end + 1) d r (omega arith) (λ neg. whole_point t d.end point_in neg d.coefficient d.digits (sym e ∙ f) l)
 
--- What a test of the byte at `i` says.
-module _ (t : Bytes) (i b : ℕ) (x : Bool) (e : b ≡ get_or t i 0) (f : x ≡ is_digit b) where
-  pub digit_there : x ≡ true → T (is_digit (get_or t i 0))
-  digit_there g = subst (λ b. T (is_digit b)) e (holds x (is_digit b) f g)
+-- The digits before the point, of which `d`, the byte `b`, is the first.
+module _ (t : Bytes) (b : ℕ) (d : Digits) (o : d.digits ≡ 1) (v : d.coefficient ≡ b - code "0") (l : is_digit b ≡ true) (neg : Bool) where
+  to_zero : d.coefficient ≡ 0 → Onto t (first neg b) d.end (Numeral.zero neg) d.end
+  to_zero e p st = rw (first_zero b neg (omega (arith, digit_bounds b (is_true l))))
 
-  pub none_there : x ≡ false → T (not (is_digit (get_or t i 0)))
-  none_there g = subst (λ b. T (not (is_digit b))) e (fails x (is_digit b) f g)
+  to_whole : (d.coefficient ≡ 0 → ⊥) → Onto t (first neg b) d.end (behind_whole d neg) d.end
+  to_whole f p st = let g : and_digit 0 b ≡ d.coefficient = omega arith in rw (first_nonzero b neg (λ e. f (omega arith)), g, o)
 
--- The first digit.
-module _ (t : Bytes) (i : ℕ) (neg : Bool) (b : ℕ) where
-  zero_digit : i ≤ length t → b ≡ code "0" → T (is_digit (get_or t i 0))
-      → Settled t (first neg b) i (record { negative = neg; coefficient = 0; digits = 1; fraction = 0; down = false; power = 0; end = i })
-  zero_digit h e d = onto_settled (omega arith) (λ p st. ap (λ s. at t (State.number s p st) i) (first_zero b neg e)) (digit_settles t neg i h d)
+  pub whole_over : (e : Refusal) → WholeAt t d (Err e) → PartAt t (first neg b) d.end (Err e)
+  whole_over e (WholeAt.zero f g) = cc
+  whole_over e (WholeAt.run f a) = onto_spoilt (to_whole f) (a.0 neg)
 
-  zero_rest : (r : Number) → b ≡ code "0" → T (not (is_digit (get_or t i 0))) → PartAt t (Numeral.whole neg 0 1) i r → PartAt t (first neg b) i r
-  zero_rest r e d = onto_part t _ _ i i r (omega arith) (λ p st. ap (λ s. at t (State.number s p st) i) (first_zero b neg e) ∙ zero_whole t i neg d p st)
+  module _ (w : Digits) where
+    pub whole_zero : d.end ≤ length t → WholeAt t d (Ok w) → T (is_digit (get_or t w.end 0))
+        → Settled t (first neg b) d.end (record { negative = neg; coefficient = 0; digits = 1; fraction = 0; down = false; power = 0; end = w.end })
+    whole_zero h (WholeAt.zero e f) y = let g : w.end ≡ d.end = cc in rw g (onto_settled (omega arith) (to_zero e) (digit_settles t neg d.end h (rw g at y)))
+    whole_zero h (WholeAt.run f (u, z)) y = absurd (T_not (is_digit (get_or t w.end 0)) z y)
 
-  module _ (f : b ≡ code "0" → ⊥) (w : ℕ) (y : w ≡ b - 48) (q k m : ℕ) (a : DigitsAt t i w 1 q k m) where
-    to_whole : Onto t (first neg b) i (Numeral.whole neg w 1) i
-    to_whole p st = let g : and_digit 0 b ≡ w = omega arith in subst (λ w. at t (State.number (first neg b) p st) i ≡ at t (State.number (Numeral.whole neg w 1) p st) i) g (ap (λ s. at t (State.number s p st) i) (first_nonzero b neg f))
-
-    first_over : max_digits < m → Spoilt t (first neg b) i (m - max_digits) q
-    first_over g = onto_spoilt to_whole ((a.many g).0 neg)
-
-    first_rest : (r : Number) → m ≤ max_digits → PartAt t (Numeral.whole neg k m) q r → PartAt t (first neg b) i r
-    first_rest r g x = let u = (a.few g).0 in onto_part t _ _ i i r (omega arith) to_whole (onto_part t _ _ i q r u.onward (u.whole neg) x)
-
--- The digits before the point.
-pub whole_run : {t : Bytes} {i b w j d m : ℕ} → (b ≡ code "0" → ⊥) → w ≡ b - code "0" → DigitsAt t i w 1 j d m → WholeAt t i b j d m
-whole_run {t} {i} {j = j} {d} {m} f e x = WholeAt.run f (subst (λ w. DigitsAt t i w 1 j d m) e x)
-
-module _ (t : Bytes) (i b : ℕ) (h : i ≤ length t) where
-  pub whole_over : (neg : Bool) (j d m : ℕ) → WholeAt t i b j d m → max_digits < m → Spoilt t (first neg b) i (m - max_digits) j
-  whole_over neg j d m (WholeAt.zero e f g k) l = absurd (omega arith)
-  whole_over neg j d m (WholeAt.run e x) l = first_over t i neg b e (b - code "0") refl j d m x l
-
-  pub whole_asks : (j d m : ℕ) → WholeAt t i b j d m → m ≤ max_digits → (j ≤ length t) × (d < 10 ^ m)
-  whole_asks j d m (WholeAt.zero e f g k) l = (omega arith, subst⁻¹ (λ d. d < 10 ^ m) g (subst⁻¹ (λ m. 0 < 10 ^ m) k (omega arith)))
-  whole_asks j d m (WholeAt.run e x) l = let u = (x.few l).0 in (u.bound, u.small)
-
-  pub whole_zero : (neg : Bool) (j d m : ℕ) → WholeAt t i b j d m → m ≤ max_digits → T (is_digit (get_or t j 0))
-      → Settled t (first neg b) i (record { negative = neg; coefficient = 0; digits = 1; fraction = 0; down = false; power = 0; end = j })
-  whole_zero neg j d m (WholeAt.run e x) l z = absurd (T_not (is_digit (get_or t j 0)) (x.few l).1 z)
-  whole_zero neg j d m (WholeAt.zero e f g k) l z =
-      subst⁻¹ (λ j. Settled t (first neg b) i (record { negative = neg; coefficient = 0; digits = 1; fraction = 0; down = false; power = 0; end = j })) f
-      (zero_digit t i neg b h e (subst (λ j. T (is_digit (get_or t j 0))) f z))
-
-  pub whole_rest : (neg : Bool) (j d m : ℕ) (r : Number) → WholeAt t i b j d m → m ≤ max_digits → T (not (is_digit (get_or t j 0))) → PartAt t (Numeral.whole neg d m) j r → PartAt t (first neg b) i r
-  whole_rest neg j d m r (WholeAt.run e x) l z y = first_rest t i neg b e (b - code "0") refl j d m x r l y
-  whole_rest neg j d m r (WholeAt.zero e f g k) l z y =
-      zero_rest t i neg b r e (subst (λ j. T (not (is_digit (get_or t j 0)))) f z) (subst (λ j. PartAt t (Numeral.whole neg 0 1) j r) f (subst (λ d. PartAt t (Numeral.whole neg d 1) j r) g (subst (λ m. PartAt t (Numeral.whole neg d m) j r) k y)))
+    pub whole_rest : (r : Result Written Refusal) → WholeAt t d (Ok w) → T (not (is_digit (get_or t w.end 0))) → PartAt t (behind_whole w neg) w.end r → PartAt t (first neg b) d.end r
+    whole_rest r (WholeAt.zero e f) z x =
+        let g : w ≡ d = cc in
+        onto_part t _ _ d.end d.end r (omega arith) (λ p st. to_zero e p st ∙ rw (e, o) (zero_whole t d.end neg (rw g at z) p st)) (rw g at x)
+    whole_rest r (WholeAt.run f (u, y)) z x = onto_part t _ _ d.end w.end r u.onward (λ p st. to_whole f p st ∙ u.whole neg p st) x
 
 -- The whole number.
 opens_digit : (b : ℕ) → opens_number b ≡ true → (b ≡ code "-" → ⊥) → is_digit b ≡ true
 opens_digit b e f = let z : opens_number b ≡ is_digit b = rw (ne_eqb b 45 f) in sym z ∙ e
 
-module _ (t : Bytes) (i : ℕ) (h : i < length t) where
-  unsigned : (r : Number) → T (is_digit (get_or t i 0)) → PartAt t (first false (get_or t i 0)) (i + 1) r → NumberAt t i r
-  unsigned (Number.Decimal w) d x = record { onward = omega (arith, x.onward); bound = x.bound; sized = x.sized; same = λ st. value_first t i h d st ∙ x.same i st }
-  unsigned (Number.Refused k q) d x = record { number = x.number; same = λ st. value_first t i h d st ∙ x.same i st }
+begins : (t : Bytes) (i j : ℕ) (s : Numeral) (r : Result Written Refusal) → i < j → ((st : Stack) → at t (State.value st) i ≡ at t (State.number s i st) j) → PartAt t s j r → NumberAt t i r
+begins t i j s (Ok w) l e x = record { onward = omega (arith, x.onward); bound = x.bound; sized = x.sized; same = λ st. e st ∙ x.same i st }
+begins t i j s (Err k) l e x = record { number = x.number; same = λ st. e st ∙ x.same i st }
 
-  module _ (e : get_or t i 0 ≡ code "-") where
-    minus_cut : length t ≤ i + 1 → Unnumbered t i 3 (i + 1)
-    minus_cut l = record { number = Refusal.short; same = λ st. value_minus t i h e st ∙ (minus_short t (i + 1) l).same i st }
-
-    module _ (j : i + 1 < length t) where
-      minus_off : T (not (is_digit (get_or t (i + 1) 0))) → Unnumbered t i 4 (i + 1)
-      minus_off d = record { number = Refusal.wrong; same = λ st. value_minus t i h e st ∙ (minus_wrong t (i + 1) j d).same i st }
-
-      negative : (r : Number) → T (is_digit (get_or t (i + 1) 0)) → PartAt t (first true (get_or t (i + 1) 0)) (i + 1 + 1) r → NumberAt t i r
-      negative (Number.Decimal w) d x =
-          record { onward = omega (arith, x.onward); bound = x.bound; sized = x.sized; same = λ st. value_minus t i h e st ∙ minus_first t (i + 1) j d i st ∙ x.same i st }
-      negative (Number.Refused k q) d x = record { number = x.number; same = λ st. value_minus t i h e st ∙ minus_first t (i + 1) j d i st ∙ x.same i st }
-
--- The same where the first digit stands at `j`, behind a minus or at once.
+-- Its first digit stands at `j`, behind a minus or at once.
 module _ (t : Bytes) (i : ℕ) (h : i < length t) (o : opens_number (get_or t i 0) ≡ true) where
-  pub number_short : {j : ℕ} → BehindMinus (get_or t i 0) i j → length t ≤ j → Unnumbered t i 3 j
-  number_short (BehindMinus.none f e) l = absurd (omega arith)
-  number_short (BehindMinus.minus f e) l = subst⁻¹ (Unnumbered t i 3) e (minus_cut t i h f (omega arith))
+  pub number_spoilt : (e : Refusal) {j : ℕ} → BehindMinus (get_or t i 0) i j → DigitAt t j (Err e) → NumberAt t i (Err e)
+  number_spoilt e (BehindMinus.none f g) (d, x) = absurd (T_not (is_digit (get_or t i 0)) (rw g at d) (is_true (opens_digit (get_or t i 0) o f)))
+  number_spoilt e {j} (BehindMinus.minus f g) (d, x) = begins t i j Numeral.minus (Err e) (omega arith) (λ st. rw g (value_minus t i h f st)) (x Numeral.minus Wanting.minus)
 
-  pub number_off : {j : ℕ} → BehindMinus (get_or t i 0) i j → j < length t → T (not (is_digit (get_or t j 0))) → Unnumbered t i 4 j
-  number_off (BehindMinus.none f e) l d = absurd (T_not (is_digit (get_or t i 0)) (subst (λ j. T (not (is_digit (get_or t j 0)))) e d) (is_true (opens_digit (get_or t i 0) o f)))
-  number_off (BehindMinus.minus f e) l d = subst⁻¹ (Unnumbered t i 4) e (minus_off t i h f (omega arith) (subst (λ j. T (not (is_digit (get_or t j 0)))) e d))
-
-  pub number_rest : {j : ℕ} (r : Number) → BehindMinus (get_or t i 0) i j → j < length t → T (is_digit (get_or t j 0)) → PartAt t (first (eqb (get_or t i 0) (code "-")) (get_or t j 0)) (j + 1) r → NumberAt t i r
-  number_rest {j} r (BehindMinus.none f e) l d x =
-      unsigned t i h r (subst (λ j. T (is_digit (get_or t j 0))) e d)
-      (subst (λ j. PartAt t (first false (get_or t j 0)) (j + 1) r) e (subst (λ c. PartAt t (first c (get_or t j 0)) (j + 1) r) (ne_eqb (get_or t i 0) (code "-") f) x))
-  number_rest {j} r (BehindMinus.minus f e) l d x =
-      negative t i h f (omega arith) r (subst (λ j. T (is_digit (get_or t j 0))) e d)
-      (subst (λ j. PartAt t (first true (get_or t j 0)) (j + 1) r) e (subst (λ c. PartAt t (first c (get_or t j 0)) (j + 1) r) (eq-eqb (get_or t i 0) (code "-") f) x))
+  pub number_rest : (d : ℕ) {j : ℕ} (r : Result Written Refusal) → BehindMinus (get_or t i 0) i j → DigitAt t j (Ok d) → PartAt t (first (eqb (get_or t i 0) (code "-")) d) (j + 1) r → NumberAt t i r
+  number_rest d {j} r (BehindMinus.none f e) a = begins t i (j + 1) _ r (omega arith) (λ st. rw (ne_eqb (get_or t i 0) (code "-") f, a.1, e) (value_first t i h (digit_there t i d (rw e at a)) st))
+  number_rest d {j} r (BehindMinus.minus f e) a =
+      begins t i (j + 1) _ r (omega arith) (λ st. rw (eq-eqb (get_or t i 0) (code "-") f, a.1) (value_minus t i h f st ∙ rw (← e) (minus_first t j a.0 (digit_there t j d a) i st)))

@@ -3,8 +3,8 @@ use Prim.Native.Char.{code}
 use Prim.Native.Nat.{◌+◌, ◌-◌, ◌<◌, ◌≤◌, suc, ℕ}
 use Rattle.scan.proofs.Steps.{Like, Within, alike, differs, fail, finish, short, step, within}
 use Rattle.scan.specs.Answers.{at, judging, loose, shut}
-use Rattle.scan.specs.Numbers.{Refusal, Sized, decimal_of}
-use Rattle.scan.specs.Numerals.{Onto, Settled, Sound, Spoilt, behind_fraction, behind_mark, behind_power, behind_sign, first, passes, written_of}
+use Rattle.scan.specs.Numbers.{Refused, Sized, decimal_of}
+use Rattle.scan.specs.Numerals.{Onto, Settled, Spoilt, Wanting, behind_fraction, behind_mark, behind_power, behind_sign, first, passes, written_of}
 use Rattle.scan.specs.declared.exponent.Mantissa.{Mantissa}
 use Rattle.scan.specs.declared.number.Written.{Written}
 use Rattle.text.proofs.Digits.{and_digit}
@@ -28,10 +28,6 @@ onto_settled h x y = record { onward = omega (arith, y.onward); bound = y.bound;
 
 pub onto_spoilt : {t : Bytes} {s s' : Numeral} {i j k q : ℕ} → Onto t s i s' j → Spoilt t s' j k q → Spoilt t s i k q
 onto_spoilt x y = record { number = y.number; same = λ p st. x p st ∙ y.same p st }
-
--- A refusal that a count of digits stands for.
-pub spoilt_count : {t : Bytes} {s : Numeral} {i k q j m : ℕ} → j ≡ q → m ≡ max_digits + k → Spoilt t s i k q → Spoilt t s i (m - max_digits) j
-spoilt_count {t} {s} {i} {k} {q} {j} {m} e f x = let g : m - max_digits ≡ k = omega arith in rw (e, g) x
 
 -- The gate of digits.
 digits_open : (n : ℕ) → n ≤ max_digits → T (shut (Gate.digits n))
@@ -65,17 +61,17 @@ module _ (t : Bytes) where
       (record { few = omega arith; part = omega arith; below = omega arith; near = omega arith })
       (λ p. Done.zero) (λ p f st. tt) (λ p st. Like.left q (Like.left r Like.like))
 
-  module _ (m : Mantissa) (z : Sound m) (i : ℕ) (b : i ≤ length t) (q : T (not (is_digit (get_or t i 0)))) where
+  module _ (m : Mantissa) (i : ℕ) (b : i ≤ length t) (q : T (not (is_digit (get_or t i 0)))) where
     pub settle_fraction : T (not (is_e (get_or t i 0))) → Settled t (behind_fraction m) i (written_of m false 0 i)
     unfolding number_move is_done
     settle_fraction r =
-        settle (behind_fraction m) (written_of m false 0 i) b (record { few = z.0; part = z.1; below = z.2; near = omega arith })
+        settle (behind_fraction m) (written_of m false 0 i) b (record { few = m.few; part = m.part; below = m.below; near = omega arith })
         (λ p. Done.fraction) (λ p f st. tt) (λ p st. Like.left q (Like.left r Like.like))
 
     pub settle_power : (down : Bool) (e k : ℕ) → e ≤ max_power → Settled t (behind_power m down e k) i (written_of m down e i)
     unfolding number_move is_done
     settle_power down e k l =
-        settle (behind_power m down e k) (written_of m down e i) b (record { few = z.0; part = z.1; below = z.2; near = l })
+        settle (behind_power m down e k) (written_of m down e i) b (record { few = m.few; part = m.part; below = m.below; near = l })
         (λ p. Done.power) (λ p f st. tt) (λ p st. Like.left q Like.like)
 
 -- Two parts of numbers that do the same, at a byte or at the end.
@@ -150,7 +146,7 @@ module _ (t : Bytes) (i : ℕ) (h : i < length t) where
 
     pub whole_many : (neg : Bool) (c n : ℕ) → max_digits ≤ n → Spoilt t (Numeral.whole neg c n) i 6 i
     unfolding move number_move number_of
-    whole_many neg c n l = record { number = Refusal.digits; same = λ p st. fail t (State.number (Numeral.whole neg c n) p st) i h (Fault.yes d (Fault.ask (digits_shut (suc n) (omega arith)))) }
+    whole_many neg c n l = record { number = Refused.digits; same = λ p st. fail t (State.number (Numeral.whole neg c n) p st) i h (Fault.yes d (Fault.ask (digits_shut (suc n) (omega arith)))) }
 
     pub fraction_digit : (neg : Bool) (c n f : ℕ) → n < max_digits → Onto t (Numeral.fraction neg c n f) i (Numeral.fraction neg (and_digit c here) (n + 1) (f + 1)) (i + 1)
     unfolding move number_move
@@ -159,7 +155,7 @@ module _ (t : Bytes) (i : ℕ) (h : i < length t) where
 
     pub fraction_many : (neg : Bool) (c n f : ℕ) → max_digits ≤ n → Spoilt t (Numeral.fraction neg c n f) i 6 i
     unfolding move number_move number_of
-    fraction_many neg c n f l = record { number = Refusal.digits; same = λ p st. fail t (State.number (Numeral.fraction neg c n f) p st) i h (Fault.yes d (Fault.ask (digits_shut (suc n) (omega arith)))) }
+    fraction_many neg c n f l = record { number = Refused.digits; same = λ p st. fail t (State.number (Numeral.fraction neg c n f) p st) i h (Fault.yes d (Fault.ask (digits_shut (suc n) (omega arith)))) }
 
     pub point_digit : (neg : Bool) (c n : ℕ) → Onto t (Numeral.point neg c n) i (Numeral.fraction neg (and_digit c here) (n + 1) 1) (i + 1)
     unfolding move number_move
@@ -186,7 +182,7 @@ module _ (t : Bytes) (i : ℕ) (h : i < length t) where
 
       pub power_many : T (not (passes m down (and_digit e here) k)) → Spoilt t (behind_power m down e k) i 7 i
       unfolding move number_move passes judging number_of
-      power_many q = record { number = Refusal.power; same = λ p st. fail t (State.number (behind_power m down e k) p st) i h (Fault.yes d (by (State.number (behind_power m down (and_digit e here) (suc k)) p st) (ltb k 2) q)) }
+      power_many q = record { number = Refused.power; same = λ p st. fail t (State.number (behind_power m down e k) p st) i h (Fault.yes d (by (State.number (behind_power m down (and_digit e here) (suc k)) p st) (ltb k 2) q)) }
         where
           by : (on : State) (x : Bool) → T (not (x || house gate)) → Fault loose (Move.when x (Move.go on) (Move.ask gate on)) 7
           by on true q = absurd q
@@ -220,7 +216,7 @@ module _ (t : Bytes) (i : ℕ) (h : i < length t) where
   pub point_many : (neg : Bool) (c n : ℕ) → here ≡ code "." → max_digits ≤ n → Spoilt t (Numeral.whole neg c n) i 6 i
   unfolding move number_move number_of
   point_many neg c n e l =
-      record { number = Refusal.digits; same = λ p st. fail t (State.number (Numeral.whole neg c n) p st) i h (subst⁻¹ (λ b. Fault loose (number_move (Numeral.whole neg c n) p st i b) 6) e (Fault.no tt (Fault.yes tt (Fault.ask (digits_shut (suc n) (omega arith)))))) }
+      record { number = Refused.digits; same = λ p st. fail t (State.number (Numeral.whole neg c n) p st) i h (subst⁻¹ (λ b. Fault loose (number_move (Numeral.whole neg c n) p st i b) 6) e (Fault.no tt (Fault.yes tt (Fault.ask (digits_shut (suc n) (omega arith)))))) }
 
   pub fraction_mark : (m : Mantissa) → T (not (is_digit here)) → T (is_e here) → Onto t (behind_fraction m) i (behind_mark m) (i + 1)
   unfolding move number_move
@@ -236,14 +232,6 @@ module _ (t : Bytes) (i : ℕ) (h : i < length t) where
 
   -- Bytes that cannot stand.
   module _ (d : T (not (is_digit here))) where
-    pub point_wrong : (neg : Bool) (c n : ℕ) → Spoilt t (Numeral.point neg c n) i 4 i
-    unfolding move number_move
-    point_wrong neg c n = record { number = Refusal.wrong; same = λ p st. fail t (State.number (Numeral.point neg c n) p st) i h (Fault.no d Fault.bad) }
-
-    pub sign_wrong : (m : Mantissa) (down : Bool) → Spoilt t (behind_sign m down) i 4 i
-    unfolding move number_move
-    sign_wrong m down = record { number = Refusal.wrong; same = λ p st. fail t (State.number (behind_sign m down) p st) i h (Fault.no d Fault.bad) }
-
     not_nonzero : T (not (is_nonzero here))
     not_nonzero = not_T (is_nonzero here) λ q.
         let lo : 49 ≤ here = leb→le 49 here (and_left (leb 49 here) (leb here 57) q) in
@@ -253,26 +241,26 @@ module _ (t : Bytes) (i : ℕ) (h : i < length t) where
     not_nought : here ≡ code "0" → ⊥
     not_nought e = T_not (is_digit here) d (subst⁻¹ (λ b. T (is_digit b)) e tt)
 
-    pub minus_wrong : Spoilt t Numeral.minus i 4 i
+    -- Where a digit is wanted.
+    pub digit_wrong : (s : Numeral) → Wanting s → Spoilt t s i 4 i
     unfolding move number_move
-    minus_wrong = record { number = Refusal.wrong; same = λ p st. fail t (State.number Numeral.minus p st) i h (Fault.no not_nonzero (Fault.no (differs here 48 not_nought) Fault.bad)) }
+    digit_wrong s w = record { number = Refused.wrong; same = λ p st. fail t (State.number s p st) i h (by s w p st) }
+      where
+        by : (s : Numeral) → Wanting s → (p : ℕ) (st : Stack) → Fault loose (number_move s p st i here) 4
+        by _ Wanting.minus p st = Fault.no not_nonzero (Fault.no (differs here 48 not_nought) Fault.bad)
+        by _ Wanting.point p st = Fault.no d Fault.bad
+        by _ Wanting.sign p st = Fault.no d Fault.bad
 
 -- The end of the text inside a number.
 module _ (t : Bytes) (i : ℕ) (h : length t ≤ i) where
-  cut : (s : Numeral) → ((p : ℕ) (st : Stack) → T (not (is_done (State.number s p st)))) → Spoilt t s i 3 i
-  cut s o = record { number = Refusal.short; same = λ p st. short t (State.number s p st) i h (o p st) }
-
-  pub minus_short : Spoilt t Numeral.minus i 3 i
+  pub digit_short : (s : Numeral) → Wanting s → Spoilt t s i 3 i
   unfolding is_done
-  minus_short = cut Numeral.minus (λ p st. tt)
-
-  pub point_short : (neg : Bool) (c n : ℕ) → Spoilt t (Numeral.point neg c n) i 3 i
-  unfolding is_done
-  point_short neg c n = cut (Numeral.point neg c n) (λ p st. tt)
-
-  pub sign_short : (m : Mantissa) (down : Bool) → Spoilt t (behind_sign m down) i 3 i
-  unfolding is_done
-  sign_short m down = cut (behind_sign m down) (λ p st. tt)
+  digit_short s w = record { number = Refused.short; same = λ p st. short t (State.number s p st) i h (by s w p st) }
+    where
+      by : (s : Numeral) → Wanting s → (p : ℕ) (st : Stack) → T (not (is_done (State.number s p st)))
+      by _ Wanting.minus p st = tt
+      by _ Wanting.point p st = tt
+      by _ Wanting.sign p st = tt
 
   -- No digit stands behind the text.
   pub no_digit : T (not (is_digit (get_or t i 0)))

@@ -8,12 +8,10 @@ use Rattle.text.proofs.Machine.{Frame, State, after_move, member_move, move, oth
 use Rattle.text.proofs.Run.{Took}
 use Rattle.text.proofs.Tests.{space_not}
 use Rattle.text.specs.Bytes.{Bytes, is_nonzero, is_space}
-use borrow.Author.Tests.{ne_eqb}
 use lib.Dec.{T, eqb}
 use lib.ListN.{get_or, length}
-use mathlib.Core.Bool.{false}
 use mathlib.Core.List.{[], ◌∷◌}
-use mathlib.Core.Path.{◌∙◌, ◌≡◌, refl}
+use mathlib.Core.Path.{◌∙◌, refl}
 use native.Mathlib.Omega.{arith}
 
 stays : {s : State} → Spaced s → (n b : ℕ) → T (is_space b) → Took shut (move s n b) s
@@ -38,7 +36,3 @@ skipped_more t i r k h p =
       inside = omega (arith, h);
       same = λ s q. k.same s q ∙ step t s r h (stays q r (get_or t r 0) p);
     }
-
--- No byte over a blank is whitespace.
-pub over_blank : (b : ℕ) → 0x20 < b → is_space b ≡ false
-over_blank b h = rw (ne_eqb b 0x20 (λ e. omega (arith, h, e)), ne_eqb b 0x09 (λ e. omega (arith, h, e)), ne_eqb b 0x0a (λ e. omega (arith, h, e)), ne_eqb b 0x0d (λ e. omega (arith, h, e)))

@@ -1,6 +1,8 @@
 -- What one byte does to the answer, and what the end of the text does.
 use Prim.Native.Nat.{◌+◌, ◌<◌, ◌≤◌, suc, ℕ}
 use Rattle.scan.specs.Answers.{Judge, at, judging, loose, refused, shut}
+use Rattle.std.proofs.lemmas.Bool.{cases_lt}
+use Rattle.std.specs.Prelude.{Err, IsErrAnd, Ok, Result}
 use Rattle.text.proofs.Demand3.{read}
 use Rattle.text.proofs.Machine.{Move, State, move}
 use Rattle.text.proofs.Run.{Done, Fault, Judged, Run, Took, done_is, done_one, fault_one, is_done, judge, run, took_fault, took_one}
@@ -9,13 +11,14 @@ use Rattle.text.specs.Bytes.{Bytes}
 use Rattle.text.specs.Ceilings.{Ceilings, Gate}
 use Rattle.text.specs.Node.{Node}
 use Rattle.text.specs.Verdict.{Outcome}
-use borrow.Author.Tests.{ltb-false, ltb-true, ne_eqb}
-use lib.Dec.{T, T_not, eqb, ltb}
+use borrow.Author.Tests.{ne_eqb}
+use lib.Dec.{T, T_not, eqb}
 use lib.ListN.{get_or-eq_default, drop, drop_of_length-le, get_or, length}
 use lib.Seq.{drop-cons}
 use mathlib.Core.Bool.{Bool, false, not, true}
 use mathlib.Core.List.{[], ◌∷◌}
-use mathlib.Core.Path.{◌∙◌, ◌≡◌, ap, fun_ext, refl, subst, subst⁻¹, sym}
+use mathlib.Core.Logic.{inl, inr}
+use mathlib.Core.Path.{◌∙◌, ◌≡◌, ap, fun_ext, refl, subst, sym}
 use native.Mathlib.Numerals.{add-one}
 
 run_one : {C : Ceilings} {s : State} {n : ℕ} {t : Bytes} {a b : Outcome} → Run C s n t a → Run C s n t b → a ≡ b
@@ -68,14 +71,14 @@ at_start t f = refl
 
 module _ (t : Bytes) (s : State) (i : ℕ) where
   next : (f : Judge) {a : Outcome} → i < length t → Run (judging f) s i (get_or t i 0 ∷ drop (suc i) t) a → at t s i f ≡ a
-  next f {a} h ρ = runs f t s i (subst⁻¹ (λ u. Run (judging f) s i u a) (drop-cons t i 0 h) ρ)
+  next f h ρ = runs f t s i (rw (drop-cons t i 0 h) ρ)
 
   last : (f : Judge) {a : Outcome} → length t ≤ i → Run (judging f) s i [] a → at t s i f ≡ a
-  last f {a} h ρ = runs f t s i (subst⁻¹ (λ u. Run (judging f) s i u a) (drop_of_length-le t h) ρ)
+  last f h ρ = runs f t s i (rw (drop_of_length-le t h) ρ)
 
   pub step_by : (f : Judge) {s' : State} → i < length t → Took (judging f) (move s i (get_or t i 0)) s' → at t s i f ≡ at t s' (i + 1) f
   unfolding at
-  step_by f {s'} h k = next f h (Run.on k (run (judging f) s' (suc i) (drop (suc i) t)).1) ∙ ap (λ n. (run (judging f) s' n (drop n t)).0) (sym (add-one i))
+  step_by f {s'} h k = rw (add-one i) (next f h (Run.on k (run (judging f) s' (suc i) (drop (suc i) t)).1))
 
   pub fail_by : (f : Judge) {k : ℕ} → i < length t → Fault (judging f) (move s i (get_or t i 0)) k → at t s i f ≡ Outcome.refused k i
   fail_by f h e = next f h (Run.off e)
@@ -129,25 +132,22 @@ pub data Within (t : Bytes) (i : ℕ) : Type 0 where
   behind : length t ≤ i → Within t i
 
 pub within : (t : Bytes) (i : ℕ) → Within t i
-within t i = by (ltb i (length t)) refl
-  where
-    by : (c : Bool) → ltb i (length t) ≡ c → Within t i
-    by true e = Within.inside (ltb-true i (length t) e)
-    by false e = Within.behind (ltb-false i (length t) e)
+within t i = elim (cases_lt i (length t)) [ inl h ↦ Within.inside h | inr h ↦ Within.behind h ]
 
 pub stands : (t : Bytes) (i : ℕ) → (get_or t i 0 ≡ 0 → ⊥) → i < length t
-stands t i f = by (within t i)
-  where
-    by : Within t i → i < length t
-    by (Within.inside h) = h
-    by (Within.behind h) = absurd (f (get_or-eq_default t 0 h))
+stands t i f = elim (cases_lt i (length t)) [ inl h ↦ h | inr h ↦ absurd (f (get_or-eq_default t 0 h)) ]
 
 -- What a test that a function answers says, either way.
 pub holds : (a b : Bool) → a ≡ b → a ≡ true → T b
-holds a b e f = subst T (sym f ∙ e) tt
+holds a b e f = rw (← e, f) tt
 
 pub fails : (a b : Bool) → a ≡ b → a ≡ false → T (not b)
-fails a b e f = subst (λ x. T (not x)) (sym f ∙ e) tt
+fails a b e f = rw (← e, f) tt
 
 pub differs : (a b : ℕ) → (a ≡ b → ⊥) → T (not (eqb a b))
-differs a b f = subst⁻¹ (λ x. T (not x)) (ne_eqb a b f) tt
+differs a b f = rw (ne_eqb a b f) tt
+
+-- What the exit of a `?` returns.
+pub passed_on : {T E : Type 0} (r : Result T E) {e : E} → IsErrAnd r (λ y. y ≡ e) → r ≡ Err e
+passed_on (Ok x) p = absurd p
+passed_on (Err y) p = ap Err p

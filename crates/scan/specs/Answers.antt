@@ -1,6 +1,8 @@
 -- The answer to the rest of a text, where a state of the machine stands before the byte `i`, for each way of judging
 -- names: the house's, or one that lets every name pass.
-use Rattle.std.specs.Prelude.{ℕ, ◌≤◌, ◌<◌, drop, length, Bool, false, true, List, ◌≡◌}
+use Rattle.std.specs.Prelude.{ℕ, ◌≤◌, ◌<◌, drop, length, Bool, false, true, List, Result, Ok, Err}
+use Rattle.scan.specs.Refusals.{number_of, place_of}
+use Rattle.scan.specs.declared.refusal.Refusal.{Refusal}
 use Rattle.text.proofs.Machine.{State}
 use Rattle.text.proofs.Run.{run}
 use Rattle.text.specs.Bytes.{Bytes, Units}
@@ -33,7 +35,7 @@ at t s i f = (run (judging f) s i (drop i t)).0
 abbrev pub refused : ℕ → ℕ → Judge → Outcome
 refused k p f = Outcome.refused k p
 
--- A leaf's answer at `i`: number 0 and the offset behind what was read, or a refusal's number and place.
-pub record Leaf (t : Bytes) (i : ℕ) (Good : ℕ → Type 0) (Bad : ℕ → ℕ → Type 0) (k p : ℕ) : Type 0 where
-  pub good : k ≡ 0 → (i < p) × (p ≤ length t) × Good p
-  pub bad : (k ≡ 0 → ⊥) → Bad k p
+-- A leaf's answer at `i`: the offset behind what was read, or a refusal.
+abbrev pub Leaf : Bytes → ℕ → (ℕ → Type 0) → (ℕ → ℕ → Type 0) → Result ℕ Refusal → Type 0
+Leaf t i Good Bad (Ok p) = (i < p) × (p ≤ length t) × Good p
+Leaf t i Good Bad (Err e) = Bad (number_of e) (place_of e)

@@ -1,9 +1,10 @@
 -- What the number leaf answers.
 use Prim.Native.Char.{code}
-use Rattle.std.specs.Prelude.{◌<◌, ◌^◌, ◌≤◌, ℕ, eqb, length, Bool, ◌||◌, ◌≡◌}
+use Rattle.std.specs.Prelude.{◌<◌, ◌^◌, ◌≤◌, ℕ, eqb, length, Bool, ◌||◌, ◌≡◌, Result, Ok, Err}
 use Rattle.scan.specs.Answers.{at, refused}
-use Rattle.scan.specs.declared.number.Number.{Number}
+use Rattle.scan.specs.Refusals.{number_of, place_of}
 use Rattle.scan.specs.declared.number.Written.{Written}
+use Rattle.scan.specs.declared.refusal.Refusal.{Refusal}
 use Rattle.text.proofs.Machine.{Stack, State}
 use Rattle.text.specs.Bytes.{Bytes, is_digit}
 use Rattle.text.specs.Ceilings.{max_digits, max_power}
@@ -34,19 +35,19 @@ pub record Numbered (t : Bytes) (i : ℕ) (w : Written) : Type 0 where
 
 -- 01's numbers of the refusals of a number: it ends too early, a byte can't stand there, it has too many digits, or its
 -- exponent has, or is out of range.
-pub data Refusal : ℕ → Type 0 where
-  short : Refusal 3
-  wrong : Refusal 4
-  digits : Refusal 6
-  power : Refusal 7
+pub data Refused : ℕ → Type 0 where
+  short : Refused 3
+  wrong : Refused 4
+  digits : Refused 6
+  power : Refused 7
 
 -- The value that begins at `i` is refused as `k` at the place `p`.
 pub record Unnumbered (t : Bytes) (i k p : ℕ) : Type 0 where
-  pub number : Refusal k
+  pub number : Refused k
   pub same : (st : Stack) → at t (State.value st) i ≡ refused k p
 
 -- What each case of the leaf's answer stands for: the decimal of the number that is written there, or 01's number and
 -- place of its refusal.
-abbrev pub NumberAt : Bytes → ℕ → Number → Type 0
-NumberAt t i (Number.Decimal w) = Numbered t i w
-NumberAt t i (Number.Refused k p) = Unnumbered t i k p
+abbrev pub NumberAt : Bytes → ℕ → Result Written Refusal → Type 0
+NumberAt t i (Ok w) = Numbered t i w
+NumberAt t i (Err e) = Unnumbered t i (number_of e) (place_of e)

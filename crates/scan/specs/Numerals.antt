@@ -1,18 +1,30 @@
 -- What the parts of the number leaf answer: each says how a number goes on behind what was read of it.
 use Prim.Native.Char.{code}
-use Rattle.std.specs.Prelude.{◌+◌, ◌-◌, ◌<◌, ◌^◌, ◌≤◌, suc, ℕ, T, eqb, ltb, get_or, length, Bool, ◌||◌, cond, not, ◌≡◌}
+use Rattle.std.specs.Prelude.{◌+◌, ◌-◌, ◌<◌, ◌≤◌, suc, ℕ, T, eqb, ltb, get_or, length, Bool, true, ◌||◌, cond, not, ◌≡◌, Result, Ok, Err}
 use Rattle.scan.specs.Answers.{at, refused}
-use Rattle.scan.specs.Numbers.{Refusal, Sized, decimal_of}
-use Rattle.scan.specs.declared.number.Number.{Number}
+use Rattle.scan.specs.Numbers.{Refused, Sized, decimal_of}
+use Rattle.scan.specs.Refusals.{number_of, place_of}
+use Rattle.scan.specs.declared.digits.Digits.{Digits}
 use Rattle.scan.specs.declared.number.Written.{Written}
 use Rattle.scan.specs.declared.exponent.Mantissa.{Mantissa}
+use Rattle.scan.specs.declared.refusal.Refusal.{Refusal}
 use Rattle.text.proofs.Digits.{and_digit}
 use Rattle.text.proofs.Machine.{Numeral, Stack, State}
 use Rattle.text.specs.Bytes.{Bytes, is_digit}
-use Rattle.text.specs.Ceilings.{Gate, house, max_digits}
+use Rattle.text.specs.Ceilings.{Gate, house}
 use Rattle.text.specs.Node.{Node}
 
--- What has been read of a number, behind its fraction, its `e`, its exponent's sign, and `k` digits of its exponent.
+-- What has been read of a number, behind the digits before its point, behind the point, and behind `f` digits of its fraction.
+abbrev pub behind_whole : Digits → Bool → Numeral
+behind_whole d neg = Numeral.whole neg d.coefficient d.digits
+
+abbrev pub behind_point : Digits → Bool → Numeral
+behind_point d neg = Numeral.point neg d.coefficient d.digits
+
+abbrev pub behind_decimal : Digits → ℕ → Bool → Numeral
+behind_decimal d f neg = Numeral.fraction neg d.coefficient d.digits f
+
+-- The same behind all of its fraction, its `e`, its exponent's sign, and `k` digits of its exponent.
 abbrev pub behind_fraction : Mantissa → Numeral
 behind_fraction m = Numeral.fraction m.negative m.coefficient m.digits m.fraction
 
@@ -40,10 +52,6 @@ pub data BehindSign (b i j : ℕ) : Type 0 where
   minus : b ≡ code "-" → j ≡ i + 1 → BehindSign b i j
   none : (b ≡ code "+" → ⊥) → (b ≡ code "-" → ⊥) → j ≡ i → BehindSign b i j
 
--- The digits before an exponent are within their ceiling.
-abbrev pub Sound : Mantissa → Type 0
-Sound m = (m.digits ≤ max_digits) × (m.fraction ≤ m.digits) × (m.coefficient < 10 ^ m.digits)
-
 abbrev pub written_of : Mantissa → Bool → ℕ → ℕ → Written
 written_of m down e i =
     record { negative = m.negative; coefficient = m.coefficient; digits = m.digits; fraction = m.fraction; down = down; power = e; end = i }
@@ -61,47 +69,57 @@ pub record Settled (t : Bytes) (s : Numeral) (i : ℕ) (w : Written) : Type 0 wh
 
 -- It is refused.
 pub record Spoilt (t : Bytes) (s : Numeral) (i k q : ℕ) : Type 0 where
-  pub number : Refusal k
+  pub number : Refused k
   pub same : (p : ℕ) (st : Stack) → at t (State.number s p st) i ≡ refused k q
 
-abbrev pub PartAt : Bytes → Numeral → ℕ → Number → Type 0
-PartAt t s i (Number.Decimal w) = Settled t s i w
-PartAt t s i (Number.Refused k q) = Spoilt t s i k q
+abbrev pub PartAt : Bytes → Numeral → ℕ → Result Written Refusal → Type 0
+PartAt t s i (Ok w) = Settled t s i w
+PartAt t s i (Err e) = Spoilt t s i (number_of e) (place_of e)
+
+-- Behind a minus, a point and an exponent's sign, a digit is wanted.
+pub data Wanting : Numeral → Type 0 where
+  minus : Wanting Numeral.minus
+  point : {neg : Bool} {c n : ℕ} → Wanting (Numeral.point neg c n)
+  sign : {neg : Bool} {c n f : ℕ} {down : Bool} → Wanting (Numeral.sign neg c n f down)
+
+-- What stands at `i` is the digit `b`, else no digit, and a number that wants one is refused.
+abbrev pub DigitAt : Bytes → ℕ → Result ℕ Refusal → Type 0
+DigitAt t i (Ok b) = (i < length t) × (b ≡ get_or t i 0) × (is_digit b ≡ true)
+DigitAt t i (Err e) = T (not (is_digit (get_or t i 0))) × ((s : Numeral) → Wanting s → Spoilt t s i (number_of e) (place_of e))
 
 -- From one part of a number to another.
 abbrev pub Onto : Bytes → Numeral → ℕ → Numeral → ℕ → Type 0
 Onto t s i s' j = (p : ℕ) (st : Stack) → at t (State.number s p st) i ≡ at t (State.number s' p st) j
 
--- A run of digits from `i` to `j`: `n` digits that come to `c` become `m` that come to `d`, before the point or behind it.
-pub record Counted (t : Bytes) (i c n j d m : ℕ) : Type 0 where
-  pub onward : i ≤ j
-  pub bound : j ≤ length t
-  pub more : n ≤ m
-  pub small : d < 10 ^ m
-  pub whole : (neg : Bool) → Onto t (Numeral.whole neg c n) i (Numeral.whole neg d m) j
-  pub fraction : (neg : Bool) (f : ℕ) → Onto t (Numeral.fraction neg c n f) i (Numeral.fraction neg d m (f + (m - n))) j
+-- The digits `e` are those of `d` and a run behind them, before the point or behind it.
+pub record Counted (t : Bytes) (d e : Digits) : Type 0 where
+  pub onward : d.end ≤ e.end
+  pub bound : e.end ≤ length t
+  pub more : d.digits ≤ e.digits
+  pub whole : (neg : Bool) → Onto t (behind_whole d neg) d.end (behind_whole e neg) e.end
+  pub fraction : (neg : Bool) (f : ℕ) → Onto t (behind_decimal d f neg) d.end (behind_decimal e (f + (e.digits - d.digits)) neg) e.end
 
--- The whole run, with no digit behind it, or the refusal at `j` that a count above the ceiling stands for.
-pub record DigitsAt (t : Bytes) (i c n j d m : ℕ) : Type 0 where
-  pub few : m ≤ max_digits → Counted t i c n j d m × T (not (is_digit (get_or t j 0)))
-  pub many : max_digits < m
-      → ((neg : Bool) → Spoilt t (Numeral.whole neg c n) i (m - max_digits) j) × ((neg : Bool) (f : ℕ) → Spoilt t (Numeral.fraction neg c n f) i (m - max_digits) j)
+-- The whole run, with no digit behind it, or a refusal.
+abbrev pub DigitsAt : Bytes → Digits → Result Digits Refusal → Type 0
+DigitsAt t d (Ok e) = Counted t d e × T (not (is_digit (get_or t e.end 0)))
+DigitsAt t d (Err e) =
+    ((neg : Bool) → Spoilt t (behind_whole d neg) d.end (number_of e) (place_of e))
+    × ((neg : Bool) (f : ℕ) → Spoilt t (behind_decimal d f neg) d.end (number_of e) (place_of e))
 
--- The digits before the point, behind the first, which is `b`: none behind a 0, else the whole run.
-pub data WholeAt (t : Bytes) (i b j d m : ℕ) : Type 0 where
-  zero : b ≡ code "0" → j ≡ i → d ≡ 0 → m ≡ 1 → WholeAt t i b j d m
-  run : (b ≡ code "0" → ⊥) → DigitsAt t i (b - code "0") 1 j d m → WholeAt t i b j d m
+-- The digits before the point, of which `d` is the first: none behind a 0, else the whole run.
+pub data WholeAt (t : Bytes) (d : Digits) (r : Result Digits Refusal) : Type 0 where
+  zero : d.coefficient ≡ 0 → r ≡ Ok d → WholeAt t d r
+  run : (d.coefficient ≡ 0 → ⊥) → DigitsAt t d r → WholeAt t d r
 
--- From `s` at `i`, behind `n` digits before the point, on to the last digit behind it, before `j`: all `m` come to `d`.
-pub record Fraction (t : Bytes) (s : Bool → Numeral) (n i j d m : ℕ) : Type 0 where
-  pub onward : i ≤ j
-  pub bound : j ≤ length t
-  pub more : n ≤ m
-  pub small : d < 10 ^ m
-  pub last : T (not (is_digit (get_or t j 0)))
-  pub same : (neg : Bool) → Onto t (s neg) i (Numeral.fraction neg d m (m - n)) j
+-- From `s` at `i`, behind the digits `d` before the point, on to the last digit behind it: all are `e`.
+pub record Fraction (t : Bytes) (s : Bool → Numeral) (i : ℕ) (d e : Digits) : Type 0 where
+  pub onward : i ≤ e.end
+  pub bound : e.end ≤ length t
+  pub more : d.digits ≤ e.digits
+  pub last : T (not (is_digit (get_or t e.end 0)))
+  pub same : (neg : Bool) → Onto t (s neg) i (behind_decimal e (e.digits - d.digits) neg) e.end
 
--- The same, or the refusal at `j` that a count above the ceiling stands for.
-pub record FractionAt (t : Bytes) (s : Bool → Numeral) (n i j d m : ℕ) : Type 0 where
-  pub few : m ≤ max_digits → Fraction t s n i j d m
-  pub many : max_digits < m → (neg : Bool) → Spoilt t (s neg) i (m - max_digits) j
+-- The same, or a refusal.
+abbrev pub FractionAt : Bytes → (Bool → Numeral) → ℕ → Digits → Result Digits Refusal → Type 0
+FractionAt t s i d (Ok e) = Fraction t s i d e
+FractionAt t s i d (Err e) = (neg : Bool) → Spoilt t (s neg) i (number_of e) (place_of e)

@@ -1,7 +1,9 @@
 -- What a string does to the answer, from behind its opening quote on, whatever it is for.
 use Prim.Native.Char.{code}
-use Rattle.std.specs.Prelude.{◌+◌, ◌<◌, ◌≤◌, suc, ℕ, T, drop, get_or, length, cond, false, [], ◌++◌, ◌∷◌, ◌≡◌}
+use Rattle.std.specs.Prelude.{◌+◌, ◌<◌, ◌≤◌, suc, ℕ, T, drop, get_or, length, cond, false, [], ◌++◌, ◌∷◌, ◌≡◌, Result, Ok, Err}
 use Rattle.scan.specs.Answers.{Judge, Leaf, at, refused}
+use Rattle.scan.specs.Refusals.{number_of, place_of}
+use Rattle.scan.specs.declared.refusal.Refusal.{Refusal}
 use Rattle.text.proofs.Machine.{Left, Stack, State, Use, names_of, onto}
 use Rattle.text.specs.Bytes.{Bytes, Source, Units, from, is_hex, is_plain}
 use Rattle.text.specs.Ceilings.{house}
@@ -39,20 +41,20 @@ ReadTo t i j = (i ≤ j) × (j ≤ length t) × Read t i j
 abbrev pub NotPlain : Bytes → ℕ → Type 0
 NotPlain t r = r < length t → is_plain (get_or t r 0) ≡ false
 
--- What stands at `i` is a hexadecimal digit if `k` is 0, else no digit that a `\u` still wants.
-pub record HexAt (t : Bytes) (i k : ℕ) : Type 0 where
-  pub good : k ≡ 0 → (i < length t) × T (is_hex (get_or t i 0))
-  pub bad : (k ≡ 0 → ⊥) → (l : Left) (a : ℕ) → Refused t (State.hex l a) i k i
+-- What stands at `i` is a hexadecimal digit, else no digit that a `\u` still wants.
+abbrev pub HexAt : Bytes → ℕ → Result (Unit {0}) Refusal → Type 0
+HexAt t i (Ok u) = (i < length t) × T (is_hex (get_or t i 0))
+HexAt t i (Err e) = (l : Left) (a : ℕ) → Refused t (State.hex l a) i (number_of e) (place_of e)
 
 -- The four digits behind `\u`.
 abbrev pub four : Use → Units → State
 four = State.hex (Left.more (Left.more (Left.more Left.last))) 0
 
-abbrev pub FourAt : Bytes → ℕ → ℕ → ℕ → Type 0
+abbrev pub FourAt : Bytes → ℕ → Result ℕ Refusal → Type 0
 FourAt t i = Leaf t i (Goes t Hexed four i) (Refused t four i)
 
 -- What stands behind a backslash.
-abbrev pub EscapeAt : Bytes → ℕ → ℕ → ℕ → Type 0
+abbrev pub EscapeAt : Bytes → ℕ → Result ℕ Refusal → Type 0
 EscapeAt t i = Leaf t i (Goes t (Escape house) State.escape i) (Refused t State.escape i)
 
 -- The answer at the closing quote of the name `us`, whose place is `p`, behind the members `ms`: the name is judged, and
@@ -67,5 +69,5 @@ pub record Ended (t : Bytes) (i p : ℕ) : Type 0 where
   pub value : (a : ℕ) (st : Stack) → at t (State.chars (Use.value a st) []) i ≡ at t (State.after st (Node.string a (p + 1) units)) (p + 1)
   pub name : (q a : ℕ) (ms : Members) (st : Stack) → at t (State.chars (Use.name q a ms st) []) i ≡ judged p ms units (at t (State.named q units a ms st) (p + 1))
 
-abbrev pub StringAt : Bytes → ℕ → ℕ → ℕ → Type 0
+abbrev pub StringAt : Bytes → ℕ → Result ℕ Refusal → Type 0
 StringAt t i = Leaf t i (λ j. (p : ℕ) × (j ≡ p + 1) × Ended t i p) (λ k p. (u : Use) → at t (State.chars u []) i ≡ refused k p)

@@ -70,8 +70,5 @@ pub fn wide(b: u8) -> u64
 pub fn byte_at(text: &[u8], i: usize) -> u8
     ensures { result ≡ get_or text.now i 0 }
 {
-    if i < text.len() {
-        return text[i];
-    }
-    0
+    text.get(i).copied().unwrap_or(0)
 }

@@ -1,7 +1,7 @@
 // The exponent of a number's normal form.
-ghost use Rattle.std.specs.Prelude.{false, ◌≡◌, ◌-◌, ◌≤◌, ◌<◌};
+ghost use Rattle.std.specs.Prelude.{false, ◌≡◌, ◌^◌, ◌≤◌, ◌<◌};
 ghost use Rattle.text.specs.Ceilings.{max_digits};
-ghost use Rattle.text.specs.Decimal.{exponent_of, normal, zeros};
+ghost use Rattle.text.specs.Decimal.{exponent_of, normal, strip, zeros};
 
 // What stands before an exponent: `digits` digits that come to `coefficient`, the last `fraction` of them
 // behind the point.
@@ -11,49 +11,51 @@ pub struct Mantissa {
     pub coefficient: u64,
     pub digits: u64,
     pub fraction: u64,
+    pub ghost few: { digits ≤ max_digits },
+    pub ghost part: { fraction ≤ digits },
+    pub ghost below: { coefficient < 10 ^ digits },
 }
 
-// The zeros that end `coefficient`, of at most `digits`.
-pub fn zeros_of(digits: u64, coefficient: u64) -> u64
-    ensures { (result ≡ zeros digits coefficient) × (result ≤ digits) }
+// A coefficient without the zeros that end it, and how many those are.
+#[derive(Clone, Copy)]
+pub struct Stripped {
+    pub coefficient: u64,
+    pub zeros: u64,
+}
+
+// `coefficient` without the zeros that end it, of at most `digits`.
+pub fn strip(digits: u64, coefficient: u64) -> Stripped
+    ensures coefficient { result.coefficient ≡ strip digits coefficient }
+    ensures zeros { (result.zeros ≡ zeros digits coefficient) × (result.zeros ≤ digits) }
 {
-    let mut n = digits;
     let mut c = coefficient;
-    let mut z = 0;
-    while 0 < n {
+    for zeros in 0..digits {
         if c % 10 != 0 {
-            return z;
+            return Stripped {
+                coefficient: c,
+                zeros,
+            };
         }
-        c = c / 10;
-        n -= 1;
-        z += 1;
+        c /= 10;
     }
-    z
-}
-
-// The difference of `a` and `b`.
-fn apart(a: u64, b: u64) -> u64
-    ensures { (b ≤ a → result ≡ a - b) × (a < b → result ≡ b - a) }
-{
-    if b <= a {
-        return a - b;
+    Stripped {
+        coefficient: c,
+        zeros: digits,
     }
-    b - a
 }
 
 // The exponent, apart from its sign, of the normal form of `m` times ten to the `power`, or to minus
 // `power` if `down`.
 pub fn exponent_of(m: Mantissa, down: bool, power: u64) -> u64
-    requires { (m.digits ≤ max_digits) × (m.fraction ≤ max_digits) × (power ≤ 9999) }
+    requires { power ≤ 9999 }
     ensures { result ≡ exponent_of (normal false m.coefficient m.digits m.fraction down power) }
 {
-    let c = m.coefficient;
-    if c == 0 {
+    if m.coefficient == 0 {
         return 0;
     }
-    let z = zeros_of(m.digits, c);
+    let zeros = strip(m.digits, m.coefficient).zeros;
     if down {
-        return apart(z, power + m.fraction);
+        return zeros.abs_diff(power + m.fraction);
     }
-    apart(power + z, m.fraction)
+    (power + zeros).abs_diff(m.fraction)
 }

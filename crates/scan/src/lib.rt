@@ -4,11 +4,13 @@
 
 pub mod bytes;
 pub mod digits;
+pub mod eights;
 pub mod exponent;
 pub mod limits;
 pub mod number;
 pub mod power;
-pub mod reach;
+pub mod refusal;
+pub mod run;
 pub mod space;
 pub mod string;
 pub mod word;

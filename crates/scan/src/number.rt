@@ -1,16 +1,17 @@
 // Numbers.
-ghost use Rattle.std.specs.Prelude.{T, length, get_or, true, not, ◌≡◌, ◌^◌, ◌≤◌, ◌<◌};
+ghost use Rattle.std.specs.Prelude.{T, length, get_or, true, not, ◌≡◌, ◌≤◌, ◌<◌};
 ghost use Rattle.scan.specs.Numbers.{NumberAt, opens_number};
-ghost use Rattle.scan.specs.Numerals.{BehindMinus, FractionAt, PartAt, WholeAt, first};
-ghost use Rattle.text.proofs.Machine.{Numeral};
+ghost use Rattle.scan.specs.Numerals.{BehindMinus, FractionAt, PartAt, WholeAt, behind_point, behind_whole, first};
 ghost use Rattle.text.specs.Bytes.{is_digit};
 ghost use Rattle.text.specs.Ceilings.{max_digits};
 
-use crate::bytes::{byte_at, is_digit, wide};
-use crate::digits::{Digits, digits_at, refused};
+use crate::bytes::{byte_at, is_digit};
+use crate::digits::{Digits, and_digit};
 use crate::exponent::Mantissa;
 use crate::limits::MAX_DIGITS;
 use crate::power::tail_at;
+use crate::refusal::Refusal;
+use crate::run::{digit_at, digits_at};
 
 // A number as it is written up to the offset `end`: `digits` digits come to `coefficient`, the last
 // `fraction` of them behind the point, times ten to the `power`, or to minus `power` if `down`.
@@ -25,108 +26,81 @@ pub struct Written {
     pub end: usize,
 }
 
-// A number, or a refusal's number and place.
-#[derive(Clone, Copy)]
-pub enum Number {
-    Decimal(Written),
-    Refused(u64, usize),
+// The digits from `at` on, behind the point, counted on from the digits `whole` before it.
+fn decimals_at(text: &[u8], at: usize, whole: Digits) -> Result<Digits, Refusal>
+    requires { (at ≤ length text.now) × (whole.digits < max_digits) }
+    ensures counted { FractionAt text.now (behind_point whole) at whole result }
+{
+    let b = digit_at(text, at)?;
+    digits_at(text, and_digit(whole, b, at))
 }
 
-// The digits from `at` on, behind the point, counted on from `digits` before it that come to `coefficient`.
-fn decimals_at(text: &[u8], at: usize, coefficient: u64, digits: u64) -> Digits
-    requires { (at ≤ length text.now) × (digits < max_digits) × (coefficient < 10 ^ digits) }
-    ensures counted { FractionAt text.now (λ negative. Numeral.point negative coefficient digits) digits at result.end result.coefficient result.digits }
+// The same behind the digits `whole`, where a point may stand and no digit.
+fn fraction_at(text: &[u8], whole: Digits) -> Result<Digits, Refusal>
+    requires { (whole.end ≤ length text.now) × T (not (is_digit (get_or text.now whole.end 0))) }
+    ensures counted { FractionAt text.now (behind_whole whole) whole.end whole result }
 {
-    if text.len() <= at {
-        return refused(3, at);
-    }
-    let b = text[at];
-    if !is_digit(b) {
-        return refused(4, at);
-    }
-    digits_at(text, at + 1, 10 * coefficient + wide(b - b'0'), digits + 1)
-}
-
-// The same from `at` on, where a point may stand and no digit.
-fn fraction_at(text: &[u8], at: usize, coefficient: u64, digits: u64) -> Digits
-    requires { (at ≤ length text.now) × (digits ≤ max_digits) × (coefficient < 10 ^ digits) × T (not (is_digit (get_or text.now at 0))) }
-    ensures counted { FractionAt text.now (λ negative. Numeral.whole negative coefficient digits) digits at result.end result.coefficient result.digits }
-{
-    let b = byte_at(text, at);
+    let b = byte_at(text, whole.end);
     if b != b'.' {
-        return Digits {
-            end: at,
-            coefficient,
-            digits,
-        };
+        return Ok(whole);
     }
-    if digits == MAX_DIGITS {
-        return refused(6, at);
+    if whole.digits == MAX_DIGITS {
+        return Err(Refusal::Digits(whole.end));
     }
-    decimals_at(text, at + 1, coefficient, digits)
+    decimals_at(text, whole.end + 1, whole)
 }
 
-// The rest of a number behind `digits` digits before the point that come to `coefficient`. All digits are
-// counted first: `tail_at`, called from one place only, is inlined, and no answer is copied.
-fn point_at(text: &[u8], at: usize, negative: bool, coefficient: u64, digits: u64) -> Number
-    requires { (at ≤ length text.now) × (digits ≤ max_digits) × (coefficient < 10 ^ digits) × T (not (is_digit (get_or text.now at 0))) }
-    ensures part { PartAt text.now (Numeral.whole negative coefficient digits) at result }
+// The rest of a number behind the digits `whole` before its point. All digits are counted first: `tail_at`,
+// called from one place only, is inlined, and no answer is copied.
+fn point_at(text: &[u8], negative: bool, whole: Digits) -> Result<Written, Refusal>
+    requires { (whole.end ≤ length text.now) × T (not (is_digit (get_or text.now whole.end 0))) }
+    ensures part { PartAt text.now (behind_whole whole negative) whole.end result }
 {
-    let r = fraction_at(text, at, coefficient, digits);
-    let end = r.end;
-    let n = r.digits;
-    if MAX_DIGITS < n {
-        return Number::Refused(n - MAX_DIGITS, end);
-    }
+    let all = fraction_at(text, whole)?;
     let m = Mantissa {
         negative,
-        coefficient: r.coefficient,
-        digits: n,
-        fraction: n - digits,
+        coefficient: all.coefficient,
+        digits: all.digits,
+        fraction: all.digits - whole.digits,
     };
-    tail_at(text, end, m)
+    tail_at(text, all.end, m)
 }
 
-// The digits before the point, of which the first, `lead`, stands before `at`. Nothing but a point or an
-// exponent may stand behind a leading 0.
-fn whole_at(text: &[u8], at: usize, lead: u8) -> Digits
-    requires { (at ≤ length text.now) × (is_digit lead ≡ true) }
-    ensures counted { WholeAt text.now at lead result.end result.coefficient result.digits }
+// The digits before the point, of which `lead` is the first. Nothing but a point or an exponent may stand
+// behind a leading 0.
+fn whole_at(text: &[u8], lead: Digits) -> Result<Digits, Refusal>
+    requires { lead.end ≤ length text.now }
+    ensures counted { WholeAt text.now lead result }
 {
-    if lead == b'0' {
-        return Digits {
-            end: at,
-            coefficient: 0,
-            digits: 1,
-        };
+    if lead.coefficient == 0 {
+        return Ok(lead);
     }
-    digits_at(text, at, wide(lead - b'0'), 1)
+    digits_at(text, lead)
 }
 
 // The rest of a number behind its first digit, which is `lead`.
-fn mantissa_at(text: &[u8], at: usize, negative: bool, lead: u8) -> Number
+fn mantissa_at(text: &[u8], at: usize, negative: bool, lead: u8) -> Result<Written, Refusal>
     requires { (at ≤ length text.now) × (is_digit lead ≡ true) }
     ensures part { PartAt text.now (first negative lead) at result }
 {
-    let r = whole_at(text, at, lead);
-    let end = r.end;
-    let n = r.digits;
-    if MAX_DIGITS < n {
-        return Number::Refused(n - MAX_DIGITS, end);
-    }
-    let b = byte_at(text, end);
-    if is_digit(b) {
-        return Number::Decimal(Written {
+    let first = Digits {
+        end: at,
+        coefficient: u64::from(lead - b'0'),
+        digits: 1,
+    };
+    let whole = whole_at(text, first)?;
+    if is_digit(byte_at(text, whole.end)) {
+        return Ok(Written {
             negative,
             coefficient: 0,
             digits: 1,
             fraction: 0,
             down: false,
             power: 0,
-            end,
+            end: whole.end,
         });
     }
-    point_at(text, end, negative, r.coefficient, n)
+    point_at(text, negative, whole)
 }
 
 // The offset of the first digit of a number whose first byte, `b`, stands at `at`.
@@ -134,25 +108,16 @@ fn behind_minus(b: u8, at: usize) -> usize
     requires { at < 9223372036854775808 }
     ensures { BehindMinus b at result }
 {
-    if b == b'-' {
-        return at + 1;
-    }
-    at
+    if b == b'-' { at + 1 } else { at }
 }
 
 // The number of `text` whose first byte, a digit or `-`, stands at `at`, as far as a number can be read.
-pub fn number_at(text: &[u8], at: usize) -> Number
+pub fn number_at(text: &[u8], at: usize) -> Result<Written, Refusal>
     requires { (at < length text.now) × (opens_number (get_or text.now at 0) ≡ true) }
     ensures read { NumberAt text.now at result }
 {
     let b = text[at];
     let j = behind_minus(b, at);
-    if text.len() <= j {
-        return Number::Refused(3, j);
-    }
-    let d = text[j];
-    if !is_digit(d) {
-        return Number::Refused(4, j);
-    }
-    mantissa_at(text, j + 1, b == b'-', d)
+    let lead = digit_at(text, j)?;
+    mantissa_at(text, j + 1, b == b'-', lead)
 }

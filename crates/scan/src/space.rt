@@ -22,12 +22,10 @@ fn skip_each(text: &[u8], from: usize) -> usize
     ensures skipped { Skipped text.now from result }
     ensures dense { Dense text.now result }
 {
-    let mut i = from;
-    while i < text.len() {
+    for i in from..text.len() {
         if !is_space(text[i]) {
             return i;
         }
-        i += 1;
     }
-    i
+    text.len()
 }

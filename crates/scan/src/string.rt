@@ -3,7 +3,8 @@ ghost use Rattle.std.specs.Prelude.{◌+◌, ◌≤◌, true, ◌≡◌, length}
 ghost use Rattle.scan.specs.Strings.{EscapeAt, FourAt, Goes, HexAt, Hexed, NotPlain, Read, ReadTo, StringAt, four};
 
 use crate::bytes::{byte_at, is_escape, is_hex, is_plain};
-use crate::reach::Reach;
+use crate::eights::eights;
+use crate::refusal::Refusal;
 
 // Whether eight plain characters stand in `text` from `i` on.
 fn eight(text: &[u8], i: usize) -> bool
@@ -20,21 +21,6 @@ fn eight(text: &[u8], i: usize) -> bool
         & is_plain(text[i + 7])
 }
 
-// An offset of `text` up to which, from `from` on, plain characters stand, a multiple of eight of them.
-fn eights(text: &[u8], from: usize) -> usize
-    requires { from ≤ length text.now }
-    ensures read { ReadTo text.now from result }
-{
-    let mut i = from;
-    while 8 <= text.len() - i {
-        if !eight(text, i) {
-            return i;
-        }
-        i += 8;
-    }
-    i
-}
-
 // The first offset of `text`, from `from` on, where no plain character stands.
 fn plain_run(text: &[u8], from: usize) -> usize
     requires { from ≤ length text.now }
@@ -44,27 +30,25 @@ fn plain_run(text: &[u8], from: usize) -> usize
     if !is_plain(byte_at(text, from)) {
         return from;
     }
-    let mut i = eights(text, from);
-    while i < text.len() {
+    for i in eights(from, text.len(), |i| eight(text, i))..text.len() {
         if !is_plain(text[i]) {
             return i;
         }
-        i += 1;
     }
-    i
+    text.len()
 }
 
-// 0 where a hexadecimal digit stands in `text` at `i`, else the number of the refusal.
-fn hex_at(text: &[u8], i: usize) -> u64
+// Refuses what stands in `text` at `i`, unless it is a hexadecimal digit.
+fn hex_at(text: &[u8], i: usize) -> Result<(), Refusal>
     ensures read { HexAt text.now i result }
 {
     if text.len() <= i {
-        return 3;
+        return Err(Refusal::Short(i));
     }
     if is_hex(text[i]) {
-        return 0;
+        return Ok(());
     }
-    4
+    Err(Refusal::Wrong(i))
 }
 
 // Whether four hexadecimal digits stand in `text` from `i` on.
@@ -76,98 +60,59 @@ fn four_hex(text: &[u8], i: usize) -> bool
 }
 
 // Reads the four digits of a `\u`, which stand in `text` from `i` on.
-fn four_at(text: &[u8], i: usize) -> Reach
+fn four_at(text: &[u8], i: usize) -> Result<usize, Refusal>
     requires { i ≤ length text.now }
-    ensures read { FourAt text.now i result.number result.at }
+    ensures read { FourAt text.now i result }
 {
-    if 4 <= text.len() - i {
-        if four_hex(text, i) {
-            return Reach {
-                number: 0,
-                at: i + 4,
-            };
-        }
+    if 4 <= text.len() - i && four_hex(text, i) {
+        return Ok(i + 4);
     }
     four_each(text, i)
 }
 
 // The same, digit by digit.
-fn four_each(text: &[u8], i: usize) -> Reach
+fn four_each(text: &[u8], i: usize) -> Result<usize, Refusal>
     requires { i ≤ length text.now }
-    ensures read { FourAt text.now i result.number result.at }
+    ensures read { FourAt text.now i result }
 {
-    let a = hex_at(text, i);
-    if a != 0 {
-        return Reach { number: a, at: i };
-    }
-    let j = i + 1;
-    let b = hex_at(text, j);
-    if b != 0 {
-        return Reach { number: b, at: j };
-    }
-    let k = j + 1;
-    let c = hex_at(text, k);
-    if c != 0 {
-        return Reach { number: c, at: k };
-    }
-    let l = k + 1;
-    let d = hex_at(text, l);
-    if d != 0 {
-        return Reach { number: d, at: l };
-    }
-    Reach {
-        number: 0,
-        at: l + 1,
-    }
+    hex_at(text, i)?;
+    hex_at(text, i + 1)?;
+    hex_at(text, i + 2)?;
+    hex_at(text, i + 3)?;
+    Ok(i + 4)
 }
 
 // Reads what stands in `text` behind a backslash, from `i` on.
-fn escape_at(text: &[u8], i: usize) -> Reach
+fn escape_at(text: &[u8], i: usize) -> Result<usize, Refusal>
     requires { i ≤ length text.now }
-    ensures read { EscapeAt text.now i result.number result.at }
+    ensures read { EscapeAt text.now i result }
 {
     if text.len() <= i {
-        return Reach { number: 3, at: i };
+        return Err(Refusal::Short(i));
     }
     let b = text[i];
     if is_escape(b) {
-        return Reach {
-            number: 0,
-            at: i + 1,
-        };
+        return Ok(i + 1);
     }
     if b != b'u' {
-        return Reach { number: 4, at: i };
+        return Err(Refusal::Wrong(i));
     }
     four_at(text, i + 1)
 }
 
 // Reads a string of `text`; `from` is the offset behind its opening quote.
-pub fn string_at(text: &[u8], from: usize) -> Reach
+pub fn string_at(text: &[u8], from: usize) -> Result<usize, Refusal>
     requires { from ≤ length text.now }
-    ensures read { StringAt text.now from result.number result.at }
+    ensures read { StringAt text.now from result }
 {
     let mut i = plain_run(text, from);
     while i < text.len() {
-        let b = text[i];
-        if b == b'"' {
-            return Reach {
-                number: 0,
-                at: i + 1,
-            };
+        match text[i] {
+            b'"' => return Ok(i + 1),
+            b'\\' => i = plain_run(text, escape_at(text, i + 1)?),
+            0..128 => return Err(Refusal::Wrong(i)),
+            _ => return Err(Refusal::High(i)),
         }
-        if b != b'\\' {
-            if b < 128 {
-                return Reach { number: 4, at: i };
-            }
-            return Reach { number: 9, at: i };
-        }
-        let e = escape_at(text, i + 1);
-        if e.number != 0 {
-            return e;
-        }
-        let next = e.at;
-        i = plain_run(text, next);
     }
-    Reach { number: 3, at: i }
+    Err(Refusal::Short(i))
 }

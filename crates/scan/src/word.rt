@@ -2,24 +2,21 @@
 ghost use Rattle.std.specs.Prelude.{◌<◌, length};
 ghost use Rattle.scan.specs.Words.{WordAt};
 
-use crate::reach::Reach;
+use crate::refusal::Refusal;
 
 // Reads `word`, whose first byte stands in `text` at `from`.
-pub fn word_at(text: &[u8], from: usize, word: &[u8]) -> Reach
+pub fn word_at(text: &[u8], from: usize, word: &[u8]) -> Result<usize, Refusal>
     requires { from < length text.now }
-    ensures read { WordAt text.now word.now from result.number result.at }
+    ensures read { WordAt text.now word.now from result }
 {
-    let mut k = 1;
-    let mut i = from + 1;
-    while k < word.len() {
+    for k in 1..word.len() {
+        let i = from + k;
         if text.len() <= i {
-            return Reach { number: 3, at: i };
+            return Err(Refusal::Short(i));
         }
         if text[i] != word[k] {
-            return Reach { number: 4, at: i };
+            return Err(Refusal::Wrong(i));
         }
-        k += 1;
-        i += 1;
     }
-    Reach { number: 0, at: i }
+    Ok(from + word.len().max(1))
 }

@@ -3,16 +3,16 @@ use Prim.Native.Char.{code}
 use Prim.Native.Nat.{◌+◌, ◌-◌, ◌/◌, ◌<◌, ◌^◌, ◌≤◌, suc, ℕ}
 use Rattle.entries.specs.Answer.{over}
 use Rattle.meaning.specs.Canonical.{put_digits}
-use Rattle.spell.proofs.Counting.{length_one}
+use Rattle.spell.proofs.Counting.{counted, few_count, length_one, many_count}
 use Rattle.spell.proofs.Putting.{put_one}
 use Rattle.spell.proofs.Widths.{Last, digit, digits_one, last, width, written}
 use Rattle.spell.specs.Puts.{Puts}
 use Rattle.text.specs.Bytes.{Bytes}
 use Rattle.text.specs.Ceilings.{max_digits}
-use lib.ListN.{get_or-append, drop, get_or, length, length-append, length-set, set, take, take-append-drop}
-use lib.Seq.{drop_at, drop-cons, get_or_at, get_or-take, length-take-le, set_at, take_at, take-length, take-suc, take-take}
+use lib.ListN.{get_or-append, drop, get_or, length, length-append, set, take}
+use lib.Seq.{drop-cons, get_or_at, get_or-take, length-take-le, set_at, take_at, take-suc, take-take}
 use mathlib.Core.List.{[], ◌++◌, ◌∷◌, append_assoc}
-use mathlib.Core.Path.{◌∙◌, ◌≡◌, ap, ap₂, refl, subst, subst⁻¹, sym}
+use mathlib.Core.Path.{◌∙◌, ◌≡◌, ap, ap₂, subst, subst⁻¹, sym}
 use native.Mathlib.Omega.{arith}
 
 -- A number of one digit.
@@ -36,21 +36,10 @@ from_behind a b i h l =
 pub record Filling (c : ℕ) (o : Bytes) (d i : ℕ) (o' : Bytes) : Type 0 where
   pub below : d ≤ c
   pub inside : i ≤ length (written c)
-  pub long : length o' ≡ length o
   pub now : o' ≡ take i o ++ drop i (over (written c) o)
   pub before : 0 < i → take i (written c) ≡ written d
 
 module _ {c : ℕ} {o : Bytes} (s : c < 10 ^ max_digits) (r : length (written c) ≤ length o) where
-  pub filling_start : {i : ℕ} → i ≡ length (written c) → Filling c o c i o
-  filling_start {i} e =
-      record {
-        below = omega arith;
-        inside = omega arith;
-        long = refl;
-        now = sym (ap (λ z. take i o ++ z) (drop_at (written c) (drop (length (written c)) o) i (sym e) ∙ ap (λ k. drop k o) (sym e)) ∙ take-append-drop i o);
-        before = λ z. ap (λ k. take k (written c)) e ∙ take-length (written c);
-      }
-
   filling_next : {d j : ℕ} {o' : Bytes} → Filling c o d (suc j) o' → Filling c o (d / 10) j (set o' j (digit d))
   filling_next {d} {j} {o'} f =
       let z : Last max_digits d = last max_digits d (omega (arith, f.below)) (omega arith) in
@@ -63,7 +52,6 @@ module _ {c : ℕ} {o : Bytes} (s : c < 10 ^ max_digits) (r : length (written c)
       record {
         below = omega (arith, f.below);
         inside = omega arith;
-        long = length-set o' j (digit d) ∙ f.long;
         now = ap₂ (λ l x. set l j x) f.now (sym b) ∙ from_behind o (over (written c) o) j (omega arith) (omega (arith, length-append (written c) (drop (length (written c)) o)));
         before = λ p. sym (take-take j (suc j) (written c) (omega arith)) ∙ ap (take j) w ∙ take_at z.front (digit d ∷ []) j k ∙ z.more (omega arith);
       }
@@ -76,3 +64,6 @@ module _ {c : ℕ} {o : Bytes} (s : c < 10 ^ max_digits) (r : length (written c)
       let g : i ≡ 0 = omega arith in
       subst (λ w. Puts w o n o') (width max_digits m c [] s l (omega arith) p)
       (record { count = e; now = f.now ∙ ap (λ i. take i o ++ drop i (over (written c) o)) g })
+
+-- What the counting and the storing of digits need.
+pub ruleset digits = (few_count, many_count, counted, length_one, one_room, one_put)

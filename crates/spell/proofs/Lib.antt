@@ -1,13 +1,10 @@
 pub mod Putting
-pub mod Stores
 pub mod Joining
-pub mod UnitLaws
 pub mod StringLaws
 pub mod Widths
 pub mod Counting
 pub mod Filling
 pub mod Parts
-pub mod Normalising
 pub mod Meeting
 pub mod Cutting
 pub mod Openings

@@ -5,8 +5,7 @@ use Rattle.meaning.proofs.Keeps as kept
 use Rattle.meaning.proofs.NumberTrip.{nonzero_digit}
 use Rattle.meaning.proofs.Reading.{number_keeps}
 use Rattle.scan.specs.Answers.{Judge, at, judging}
-use Rattle.scan.specs.Numbers.{NumberAt, Sized, decimal_of, opens_number}
-use Rattle.scan.specs.declared.number.Number.{Number}
+use Rattle.scan.specs.Numbers.{Numbered, Unnumbered, decimal_of, opens_number}
 use Rattle.scan.specs.declared.number.Written.{Written}
 use Rattle.spell.specs.Normals.{NormalOf, meant}
 use Rattle.spell.specs.Scalars.{Numeral}
@@ -70,23 +69,18 @@ value_stays (Run.off f) e g = let z : ◌≡◌ {A = ℕ} 0 1 = cc in absurd (om
 every : Judge
 every us ns = true
 
-module _ (s : Bytes) {g : Number} (r : NumberAt s 0 g) where
-  pub read_as : {w : Written} {x : Decimal} → g ≡ Number.Decimal w → Numeral s x → decimal_of w ≡ x
-  unfolding at
-  read_as {w} {x} e n =
-      let a = (subst (NumberAt s 0) e r).same [] in
-      let v : Node.number 0 w.end (decimal_of w) ≡ Node.number 0 (length s) x =
-      value_stays (run (judging every) (State.after [] (Node.number 0 w.end (decimal_of w))) w.end (drop w.end s)).1 refl (sym (ap (λ h. h every) a) ∙ accepted every n) in
-      cc
+read_as : {s : Bytes} {w : Written} {x : Decimal} → Numbered s 0 w → Numeral s x → decimal_of w ≡ x
+unfolding at
+read_as {s} {w} {x} r n =
+    let v : Node.number 0 w.end (decimal_of w) ≡ Node.number 0 (length s) x =
+    value_stays (run (judging every) (State.after [] (Node.number 0 w.end (decimal_of w))) w.end (drop w.end s)).1 refl (sym (ap (λ h. h every) (r.same [])) ∙ accepted every n) in
+    cc
 
-  pub read_sized : {w : Written} → g ≡ Number.Decimal w → Sized w
-  read_sized e = (subst (NumberAt s 0) e r).sized
-
-  pub read_some : {k p : ℕ} {x : Decimal} → g ≡ Number.Refused k p → Numeral s x → ⊥
-  read_some e n =
-      let a = ap (λ h. h every) ((subst (NumberAt s 0) e r).same []) in
-      let b = accepted every n in
-      let z : ◌≡◌ {A = ℕ} 0 1 = cc in omega arith
+pub read_some : {s : Bytes} {k p : ℕ} {x : Decimal} → Unnumbered s 0 k p → Numeral s x → ⊥
+read_some r n =
+    let a = ap (λ h. h every) (r.same []) in
+    let b = accepted every n in
+    let z : ◌≡◌ {A = ℕ} 0 1 = cc in absurd (omega arith)
 
 -- A number is within the ceilings.
 normal_kept : {neg : Bool} {c : ℕ} {down : Bool} {e : ℕ} → kept.Normal (Decimal.decimal neg c down e) → (c < 10 ^ max_digits) × (e ≤ max_power)
@@ -94,7 +88,7 @@ normal_kept kept.Normal.zero = (omega arith, omega arith)
 normal_kept (kept.Normal.up a b c d) = (b, d)
 normal_kept (kept.Normal.down a b c d e) = (b, e)
 
-pub normal_is : {s : Bytes} {n : Normal} {x : Decimal} → Numeral s x → ((y : Decimal) → Numeral s y → meant n ≡ y) → NormalOf s n
-normal_is {s} {n} {x} m f =
-    let k = normal_kept (subst kept.Normal (sym (f x m)) (number_keeps m)) in
-    record { same = f; small = k.0; near = k.1 }
+pub read_normal : {s : Bytes} {w : Written} {n : Normal} {x : Decimal} → Numbered s 0 w → Numeral s x → meant n ≡ decimal_of w → NormalOf s n
+read_normal r m e =
+    let k = normal_kept (subst kept.Normal (sym (e ∙ read_as r m)) (number_keeps m)) in
+    record { same = λ y o. e ∙ read_as r o; small = k.0; near = k.1 }

@@ -76,3 +76,5 @@ module _ {t : Bytes} {p q : ℕ} where
   number_text (Scalar.word {l = Literal.false} e) a b c d = absurd (c e)
   number_text (Scalar.string e r) a b c d = absurd (a e)
   number_text (Scalar.number {x = x} e h k n) a b c d = record { number = x; same = refl; onward = h; bound = k; alone = number_cut t h k n }
+
+pub ruleset texts = (quote_text, true_text, false_text, null_text, number_text)

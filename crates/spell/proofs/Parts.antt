@@ -10,22 +10,14 @@ use Rattle.spell.specs.Normals.{NormalOf, meant}
 use Rattle.spell.specs.Scalars.{Numeral}
 use Rattle.spell.specs.declared.normal.Normal.{Normal}
 use Rattle.text.specs.Bytes.{Bytes}
-use Rattle.text.specs.Ceilings.{max_digits, max_power, max_power_digits}
+use Rattle.text.specs.Ceilings.{max_digits, max_power_digits}
 use Rattle.text.specs.Decimal.{Decimal}
-use borrow.Author.Tests.{eq-eqb, ne_eqb}
+use borrow.Author.Tests.{ne_eqb}
 use lib.ListN.{length, length-append}
 use mathlib.Core.Bool.{Bool, false, true}
 use mathlib.Core.List.{[], ◌++◌, ◌∷◌}
-use mathlib.Core.Path.{◌∙◌, ◌≡◌, ap, subst⁻¹, sym}
+use mathlib.Core.Path.{◌∙◌, ◌≡◌, ap, subst⁻¹}
 use native.Mathlib.Omega.{arith}
-
-pub sign_minus : {s : Bool} → s ≡ true → put_sign s [] ≡ code "-" ∷ []
-unfolding put_sign
-sign_minus e = ap (λ s. put_sign s []) e
-
-pub sign_none : {s : Bool} → s ≡ false → put_sign s [] ≡ []
-unfolding put_sign
-sign_none e = ap (λ s. put_sign s []) e
 
 pub sign_most : (s : Bool) → length (put_sign s []) ≤ 1
 unfolding put_sign
@@ -35,9 +27,6 @@ sign_most false = omega arith
 module _ (s : Bool) (c : ℕ) where
   pub signed_parts : (n : ℕ) → put_sign s (put_digits n c []) ≡ put_sign s [] ++ put_digits n c []
   signed_parts n = sign_append s [] (put_digits n c [])
-
-  pub signed_joined : (o : Bytes) → length (put_sign s (put_digits max_digits c [])) ≤ length o → Joined (put_sign s (put_digits max_digits c [])) (put_sign s []) (put_digits max_digits c []) o
-  signed_joined o l = record { whole = signed_parts max_digits; room = l }
 
   pub signed_length : (n : ℕ) → length (put_sign s (put_digits n c [])) ≡ length (put_sign s []) + length (put_digits n c [])
   signed_length n = ap length (signed_parts n) ∙ length-append (put_sign s []) (put_digits n c [])
@@ -49,17 +38,9 @@ module _ (s : Bool) (c : ℕ) where
   signed_most n = omega (arith, signed_length n, sign_most s, digits_most n c [])
 
 module _ (down : Bool) (e : ℕ) where
-  pub power_none : e ≡ 0 → put_power down e [] ≡ []
-  unfolding put_power
-  power_none h = rw (eq-eqb e 0 h, put_power)
-
   pub power_parts : (e ≡ 0 → ⊥) → put_power down e [] ≡ (code "e" ∷ []) ++ put_sign down (put_digits max_power_digits e [])
   unfolding put_power
   power_parts h = rw (ne_eqb e 0 h, put_power)
-
-  pub power_joined : (o : Bytes) → (e ≡ 0 → ⊥) → e ≤ max_power → length (put_power down e []) ≤ length o → Joined (put_power down e []) (code "e" ∷ []) (put_sign down (put_digits max_digits e [])) o
-  power_joined o h k l =
-      record { whole = power_parts h ∙ ap (λ l. code "e" ∷ l) (sym (signed_width down e (omega arith) max_power_digits (omega arith) (omega arith))); room = l }
 
 pub number_parts : (x : Normal) → put_number (meant x) [] ≡ put_sign x.negative (put_digits max_digits x.coefficient []) ++ put_power x.down x.power []
 unfolding put_number

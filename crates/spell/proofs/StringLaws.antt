@@ -5,12 +5,10 @@ use Rattle.meaning.proofs.Append.{unit_append}
 use Rattle.meaning.specs.Canonical.{is_bare, put_unit, put_units}
 use Rattle.names.proofs.Reading.{units_end, units_plain, units_quote}
 use Rattle.names.proofs.Runs.{eight_tests}
-use Rattle.names.specs.Steps.{StepAt, all, end_code}
+use Rattle.names.specs.Steps.{all}
 use Rattle.names.specs.Units.{units}
 use Rattle.spell.proofs.Joining.{put_as}
-use Rattle.spell.proofs.Putting.{lend, lend_fits, lend_start, put_byte, put_length, put_none, rest}
-use Rattle.spell.proofs.Stores.{stored}
-use Rattle.spell.proofs.UnitLaws.{bare_text}
+use Rattle.spell.proofs.Putting.{lend, lend_fits, put_byte, put_length, put_none, put_one, rest}
 use Rattle.spell.specs.Puts.{Puts}
 use Rattle.spell.specs.Scalars.{quoted}
 use Rattle.spell.specs.Strings.{Copied, Part, Plain, ending}
@@ -25,19 +23,19 @@ use mathlib.Core.List.{[], ◌++◌, ◌∷◌, append_assoc}
 use mathlib.Core.Path.{◌∙◌, ◌≡◌, ap, ap₂, refl, subst, subst⁻¹, sym}
 use native.Mathlib.Omega.{arith}
 
+bare_text : (u : ℕ) → is_bare u ≡ true → put_unit u [] ≡ u ∷ []
+unfolding put_unit
+bare_text u e = rw (e, put_unit)
+
 module _ (t : Bytes) where
   -- A unit, and the end.
-  unit_part : (i j u : ℕ) → units (drop i t) ≡ u ∷ units (drop j t) → Part t i j (put_unit u [])
+  pub unit_part : (i j u : ℕ) → units (drop i t) ≡ u ∷ units (drop j t) → Part t i j (put_unit u [])
   unfolding put_units
   unit_part i j u e = record { same = ap (λ us. put_units us (code "\"" ∷ [])) e ∙ unit_append u [] (ending t j) }
 
-  module _ {i u next : ℕ} (s : StepAt units t i u next) where
-    pub some_part : (u ≡ end_code → ⊥) → Part t i next (put_unit u [])
-    some_part f = unit_part i next u (s.some f).0
-
-    pub none_ending : u ≡ end_code → ending t i ≡ code "\"" ∷ []
-    unfolding put_units
-    none_ending e = ap (λ us. put_units us (code "\"" ∷ [])) (s.none e)
+  pub none_ending : (i : ℕ) → units (drop i t) ≡ [] → ending t i ≡ code "\"" ∷ []
+  unfolding put_units
+  none_ending i e = ap (λ us. put_units us (code "\"" ∷ [])) e
 
   -- The bytes from one offset up to another.
   span_one : (i : ℕ) → i < length t → take (i + 1 - i) (drop i t) ≡ get_or t i 0 ∷ []
@@ -51,9 +49,8 @@ module _ (t : Bytes) where
       ap (λ n. take n (drop i t)) n ∙ take-add (j - i) (k - j) (drop i t) ∙ ap (λ s. take (j - i) (drop i t) ++ take (k - j) s) d
 
   -- A quote closes the string.
-  pub quote_ending : (i : ℕ) → get_or t i 0 ≡ code "\"" → ending t i ≡ code "\"" ∷ []
-  unfolding put_units
-  quote_ending i e = ap (λ us. put_units us (code "\"" ∷ [])) (by (ltb i (length t)) refl)
+  pub quote_ends : (i : ℕ) → get_or t i 0 ≡ code "\"" → units (drop i t) ≡ []
+  quote_ends i e = by (ltb i (length t)) refl
     where
       by : (b : Bool) → ltb i (length t) ≡ b → units (drop i t) ≡ []
       by true h = units_quote t i (ltb-true i (length t) h) e
@@ -68,7 +65,7 @@ module _ (t : Bytes) where
   pub plain_one : (i : ℕ) → i < length t → is_bare (get_or t i 0) ≡ true → Plain t i (i + 1)
   plain_one i h e =
       let q = units_plain t i h (λ x. false≢true (ap is_bare (sym x) ∙ e)) (λ x. false≢true (ap is_bare (sym x) ∙ e)) in
-      record { onward = omega arith; bound = omega arith; part = subst (Part t i (i + 1)) (bare_text (get_or t i 0) refl e ∙ sym (span_one i h)) (unit_part i (i + 1) (get_or t i 0) q) }
+      record { onward = omega arith; bound = omega arith; part = subst (Part t i (i + 1)) (bare_text (get_or t i 0) e ∙ sym (span_one i h)) (unit_part i (i + 1) (get_or t i 0) q) }
 
   pub plain_then : {i j k : ℕ} → Plain t i j → Plain t j k → Plain t i k
   plain_then {i} {j} {k} x y =
@@ -106,6 +103,9 @@ module _ (t : Bytes) where
   plain_length {i} {j} x =
       let h = x.bound in
       part_length x.part ∙ ap (λ n. n + length (ending t j)) (length-take-le (j - i) (drop i t) (omega (arith, length-drop i t)))
+
+  pub unit_length : (i j u : ℕ) → units (drop i t) ≡ u ∷ units (drop j t) → length (ending t i) ≡ length (put_unit u []) + length (ending t j)
+  unit_length i j u e = part_length (unit_part i j u e)
 
 -- A run that is copied as it is found, to an output that has room for the rest of the string.
 module _ (t : Bytes) (from : ℕ) (o : Bytes) (r : length (ending t from) ≤ length o) where
@@ -146,18 +146,12 @@ pub record Upto (w t : Bytes) (i : ℕ) (o : Bytes) (p : ℕ) (o' : Bytes) : Typ
   pub room : length w ≤ length o
   pub puts : Puts front o p o'
 
-pub upto_none : (t : Bytes) (i : ℕ) (o : Bytes) → length (ending t i) ≤ length o → Upto (ending t i) t i o 0 o
-upto_none t i o h = record { front = []; whole = refl; room = h; puts = put_none o }
-
 module _ {w t o o₁ : Bytes} {i p : ℕ} (x : Upto w t i o p o₁) where
   lengths : length w ≡ p + length (ending t i)
   lengths = ap length x.whole ∙ length-append x.front (ending t i) ∙ ap (λ n. n + length (ending t i)) (sym x.puts.count)
 
   front_fits : length x.front ≤ length o
   front_fits = omega (arith, x.room, lengths, x.puts.count)
-
-  pub upto_start : p ≤ length o₁
-  upto_start = lend_start x.puts front_fits
 
   pub upto_length : length o₁ ≡ length o
   upto_length = put_length x.puts front_fits
@@ -172,9 +166,6 @@ module _ {w t o o₁ : Bytes} {i p : ℕ} (x : Upto w t i o p o₁) where
 
     -- A step that wrote it.
     module _ {n : ℕ} {o₂ : Bytes} (z : Puts c (rest p o₁) n o₂) where
-      pub upto_added : p + n ≤ length o
-      upto_added = omega (arith, room_for, z.count)
-
       pub upto_lend : Upto w t j o (p + n) (take p o₁ ++ (o₂ ++ drop (length o₁ - p) (drop p o₁)))
       upto_lend =
           record {
@@ -184,34 +175,29 @@ module _ {w t o o₁ : Bytes} {i p : ℕ} (x : Upto w t i o p o₁) where
             puts = lend x.puts front_fits z;
           }
 
-  -- All that is left.
-  pub upto_rest : length (ending t i) ≤ length (rest p o₁)
-  upto_rest = lend_fits x.puts front_fits (ending t i) (omega (arith, x.room, ap length x.whole))
-
+  -- A step that wrote all that is left.
   module _ {n : ℕ} {o₂ : Bytes} (z : Puts (ending t i) (rest p o₁) n o₂) where
     pub upto_all : Puts w o (p + n) (take p o₁ ++ (o₂ ++ drop (length o₁ - p) (drop p o₁)))
     upto_all = subst⁻¹ (λ w. Puts w o (p + n) (take p o₁ ++ (o₂ ++ drop (length o₁ - p) (drop p o₁)))) x.whole (lend x.puts front_fits z)
 
-    pub upto_all_length : length (take p o₁ ++ (o₂ ++ drop (length o₁ - p) (drop p o₁))) ≡ length o
-    upto_all_length = put_length upto_all x.room
-
   -- The closing quote.
-  module _ (e : ending t i ≡ code "\"" ∷ []) where
+  module _ (e : units (drop i t) ≡ []) where
     pub upto_last : (p < length o) × (p < length o₁)
-    upto_last = let h : p < length o = omega (arith, x.room, lengths, ap length e) in (h, omega (arith, upto_length))
+    upto_last = let h : p < length o = omega (arith, x.room, lengths, ap length (none_ending t i e)) in (h, omega (arith, upto_length))
 
     pub upto_close : Puts w o (p + 1) (set o₁ p (code "\""))
-    upto_close = put_as (sym (x.whole ∙ ap (λ s. x.front ++ s) e)) (put_byte x.puts front_fits (code "\"") (omega (arith, upto_last.0, x.puts.count)))
-
-    pub upto_close_length : length (set o₁ p (code "\"")) ≡ length o
-    upto_close_length = put_length upto_close x.room
+    upto_close = put_as (sym (x.whole ∙ ap (λ s. x.front ++ s) (none_ending t i e))) (put_byte x.puts front_fits (code "\"") (omega (arith, upto_last.0, x.puts.count)))
 
 -- The opening quote.
 pub upto_quote : (t : Bytes) (q : ℕ) (o : Bytes) → length (quoted (units (drop (q + 1) t))) ≤ length o → Upto (quoted (units (drop (q + 1) t))) t (q + 1) o 1 (set o 0 (code "\""))
-upto_quote t q o h = record { front = code "\"" ∷ []; whole = refl; room = h; puts = stored (code "\"" ∷ []) refl (omega arith) }
+upto_quote t q o h = record { front = code "\"" ∷ []; whole = refl; room = h; puts = put_one (code "\"") o (omega arith) }
 
 module _ (t : Bytes) (q : ℕ) (o : Bytes) (h : length (quoted (units (drop (q + 1) t))) ≤ length o) where
   -- And the plain bytes behind it.
   module _ {n : ℕ} {o₂ : Bytes} (y : Copied t (q + 1) (q + 1 + n) (rest 1 (set o 0 (code "\""))) n o₂) where
     pub opened : Upto (quoted (units (drop (q + 1) t))) t (q + 1 + n) o (1 + n) (let o₁ = set o 0 (code "\"") in take 1 o₁ ++ (o₂ ++ drop (length o₁ - 1) (drop 1 o₁)))
     opened = upto_lend (upto_quote t q o h) y.plain.part y.puts
+
+pub ruleset strings = (none_ending, quote_ends, unit_length, plain_length, plain_none, plain_one, plain_then)
+
+pub ruleset copies = (copied_none, copied_all, copied_room, copied_more)

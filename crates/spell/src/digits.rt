@@ -1,4 +1,6 @@
 // Numbers in fewest digits.
+#![tactic(auto, using(crate::proofs::Filling::digits))]
+
 ghost use Rattle.std.specs.Prelude.{length, [], ◌≡◌, ℕ, ◌^◌, ◌≤◌, ◌<◌};
 ghost use Rattle.meaning.specs.Canonical.{put_digits};
 ghost use Rattle.spell.specs.Numerals.{reach};
@@ -9,10 +11,7 @@ ghost use Rattle.text.specs.Ceilings.{max_digits};
 fn reaches(c: u64, bound: u64) -> usize
     ensures { (result ≡ reach bound c) × (result ≤ 1) }
 {
-    if bound <= c {
-        return 1;
-    }
-    0
+    usize::from(bound <= c)
 }
 
 // How many digits `c` is written in, which are at most nine: one more for each power of ten that it reaches.
@@ -56,11 +55,9 @@ pub fn put_digits(c: u64, out: &mut [u8]) -> usize
     }
     let n = digits_length(c);
     let mut d = c;
-    let mut i = n;
-    while 0 < i {
-        i -= 1;
+    for i in (0..n).rev() {
         out[i] = b'0' + (d % 10) as u8;
-        d = d / 10;
+        d /= 10;
     }
     n
 }

@@ -1,12 +1,14 @@
 // Numbers in normal form.
+#![tactic(auto, using(std::proofs::lemmas::Bool::Decides::nat_tests), unfolding(text::specs::Decimal::normal, text::specs::Decimal::scaled))]
+
 ghost use Rattle.std.specs.Prelude.{false, ◌≡◌};
 ghost use Rattle.scan.specs.Numbers.{Sized, decimal_of};
 ghost use Rattle.spell.specs.Normals.{NormalOf, meant};
 ghost use Rattle.spell.specs.Scalars.{Numeral};
-ghost use Rattle.text.specs.Decimal.{Decimal, scaled, strip};
+ghost use Rattle.text.specs.Decimal.{Decimal, scaled};
 
-use scan::exponent::zeros_of;
-use scan::number::{Number, Written, number_at};
+use scan::exponent::strip;
+use scan::number::{Written, number_at};
 
 // The coefficient, which does not end in 0, times ten to the `power`, or to minus `power` if `down`.
 // Zero is never negative, and has the power 0.
@@ -30,39 +32,15 @@ fn nought() -> Normal
     }
 }
 
-// `coefficient` without the zeros that end it, of at most `digits`.
-fn without_zeros(digits: u64, coefficient: u64) -> u64
-    ensures { result ≡ strip digits coefficient }
-{
-    let mut n = digits;
-    let mut c = coefficient;
-    while 0 < n {
-        if c % 10 != 0 {
-            return c;
-        }
-        c = c / 10;
-        n -= 1;
-    }
-    c
-}
-
 // `coefficient` times ten to the `up` less `down`.
 fn times_ten(negative: bool, coefficient: u64, up: u64, down: u64) -> Normal
     ensures { meant result ≡ scaled negative coefficient up down }
 {
-    if down <= up {
-        return Normal {
-            negative,
-            coefficient,
-            down: false,
-            power: up - down,
-        };
-    }
     Normal {
         negative,
         coefficient,
-        down: true,
-        power: down - up,
+        down: up < down,
+        power: up.abs_diff(down),
     }
 }
 
@@ -71,16 +49,14 @@ fn normalised(w: Written) -> Normal
     requires { Sized w }
     ensures { meant result ≡ decimal_of w }
 {
-    let c = w.coefficient;
-    if c == 0 {
+    if w.coefficient == 0 {
         return nought();
     }
-    let z = zeros_of(w.digits, c);
-    let m = without_zeros(w.digits, c);
+    let s = strip(w.digits, w.coefficient);
     if w.down {
-        return times_ten(w.negative, m, z, w.power + w.fraction);
+        return times_ten(w.negative, s.coefficient, s.zeros, w.power + w.fraction);
     }
-    times_ten(w.negative, m, w.power + z, w.fraction)
+    times_ten(w.negative, s.coefficient, w.power + s.zeros, w.fraction)
 }
 
 // The normal form of `number`, all of which is one number, so that the leaf never refuses it.
@@ -88,8 +64,7 @@ pub fn normal_of(number: &[u8]) -> Normal
     requires { (x : Decimal) × Numeral number.now x }
     ensures normal { NormalOf number.now result }
 {
-    let g = number_at(number, 0);
-    let Number::Decimal(w) = g else {
+    let Ok(w) = number_at(number, 0) else {
         return nought();
     };
     normalised(w)

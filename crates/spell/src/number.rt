@@ -1,4 +1,6 @@
 // Canonical numbers.
+#![tactic(auto, using(crate::proofs::Parts::number_sum), unfolding(meaning::specs::Canonical::put_sign, meaning::specs::Canonical::put_power))]
+
 ghost use Rattle.std.specs.Prelude.{length, [], ◌≡◌, ℕ, ◌^◌, ◌≤◌, ◌<◌};
 ghost use Rattle.meaning.specs.Canonical.{put_digits, put_number, put_power, put_sign};
 ghost use Rattle.spell.specs.Puts.{Puts};
@@ -13,10 +15,7 @@ use crate::normal::normal_of;
 fn sign_length(negative: bool) -> usize
     ensures { result ≡ length (put_sign negative []) }
 {
-    if negative {
-        return 1;
-    }
-    0
+    usize::from(negative)
 }
 
 // How many bytes `c` is written in, behind its sign.

@@ -1,4 +1,6 @@
 // Values without values inside them in canonical text. The first byte says which kind a value is of.
+#![tactic(auto, using(crate::proofs::Openings::texts))]
+
 ghost use Rattle.std.specs.Prelude.{length, [], ◌≡◌, ◌<◌, ◌≤◌};
 ghost use Rattle.entries.specs.Answer.{max_text};
 ghost use Rattle.meaning.specs.Canonical.{put};
@@ -15,20 +17,13 @@ pub fn scalar_length(text: &[u8], at: usize, end: usize) -> usize
     requires { (at < length text.now) × (length text.now ≤ max_text) × ((v : Tree) × Scalar text.now at end v) }
     ensures { (v : Tree) → Scalar text.now at end v → result ≡ length (put v []) }
 {
-    let b = text[at];
-    if b == b'"' {
-        return string_length(text, at);
+    match text[at] {
+        b'"' => string_length(text, at),
+        b't' => 4,
+        b'f' => 5,
+        b'n' => 4,
+        _ => number_length(&text[at..end]),
     }
-    if b == b't' {
-        return 4;
-    }
-    if b == b'f' {
-        return 5;
-    }
-    if b == b'n' {
-        return 4;
-    }
-    number_length(&text[at..end])
 }
 
 // Writes the value that stands in `text` from `at` up to `end` to the front of `out`, and returns how many bytes
@@ -37,18 +32,11 @@ pub fn put_scalar(text: &[u8], at: usize, end: usize, out: &mut [u8]) -> usize
     requires { (at < length text.now) × ((v : Tree) × Scalar text.now at end v × (length (put v []) ≤ length out.old)) }
     ensures put { (v : Tree) → Scalar text.now at end v → Puts (put v []) out.old result out.new }
 {
-    let b = text[at];
-    if b == b'"' {
-        return put_string(text, at, out);
+    match text[at] {
+        b'"' => put_string(text, at, out),
+        b't' => put_word(b"true", out),
+        b'f' => put_word(b"false", out),
+        b'n' => put_word(b"null", out),
+        _ => put_number(&text[at..end], out),
     }
-    if b == b't' {
-        return put_word(b"true", out);
-    }
-    if b == b'f' {
-        return put_word(b"false", out);
-    }
-    if b == b'n' {
-        return put_word(b"null", out);
-    }
-    put_number(&text[at..end], out)
 }

@@ -1,6 +1,8 @@
 // Strings in canonical text. The first bytes are looked at one by one, which is all of most strings. Behind them
 // a run of characters that are written plain is found and copied whole; any other character is read and written
 // as a unit.
+#![tactic(auto, using(crate::proofs::StringLaws::strings))]
+
 ghost use Rattle.std.specs.Prelude.{drop, get_or, length, true, ◌≡◌, ◌*◌, ◌+◌, ◌<◌, ◌≤◌};
 ghost use Rattle.entries.specs.Answer.{max_text};
 ghost use Rattle.meaning.specs.Canonical.{is_bare};
@@ -11,9 +13,9 @@ ghost use Rattle.spell.specs.Strings.{Copied, Plain, ending};
 
 use crate::unit::{is_bare, put_unit, unit_length};
 use crate::word::put_word;
-use names::escape::wide;
-use names::unit::{END, unit_at};
+use names::unit::unit_at;
 use scan::bytes::byte_at;
+use scan::eights::eights;
 
 // How many bytes of a string are looked at one by one at first: most strings are short.
 const NEAR: usize = 8;
@@ -23,7 +25,7 @@ fn bare_at(text: &[u8], i: usize) -> bool
     requires { i < length text.now }
     ensures { result ≡ is_bare (get_or text.now i 0) }
 {
-    is_bare(wide(text[i]))
+    is_bare(u64::from(text[i]))
 }
 
 // The first offset of `text` from `from` on and before `end` whose byte is not written plain, or `end`.
@@ -31,14 +33,12 @@ fn plain_before(text: &[u8], from: usize, end: usize) -> usize
     requires { (from ≤ end) × (end ≤ length text.now) }
     ensures plain { Plain text.now from result }
 {
-    let mut i = from;
-    while i < end {
+    for i in from..end {
         if !bare_at(text, i) {
             return i;
         }
-        i += 1;
     }
-    i
+    end
 }
 
 // Whether the eight bytes of `text` from `i` on are written plain.
@@ -56,33 +56,17 @@ fn eight(text: &[u8], i: usize) -> bool
         & bare_at(text, i + 7)
 }
 
-// An offset of `text` up to which, from `from` on, bytes are written plain, a multiple of eight of them.
-fn eights(text: &[u8], from: usize) -> usize
-    requires { from ≤ length text.now }
-    ensures plain { Plain text.now from result }
-{
-    let mut i = from;
-    while 8 <= text.len() - i {
-        if !eight(text, i) {
-            return i;
-        }
-        i += 8;
-    }
-    i
-}
-
 // The first offset of `text`, from `from` on, whose byte is not written plain. The next byte is tested
 // before eight are: often the run is empty.
 fn bare_run(text: &[u8], from: usize) -> usize
     requires { from ≤ length text.now }
     ensures plain { Plain text.now from result }
 {
-    if from < text.len() {
-        if !bare_at(text, from) {
-            return from;
-        }
+    if from < text.len() && !bare_at(text, from) {
+        return from;
     }
-    plain_before(text, eights(text, from), text.len())
+    let i = eights(from, text.len(), |i| eight(text, i));
+    plain_before(text, i, text.len())
 }
 
 // How many bytes the rest of a string takes, from its character in `text` at `from` up to the closing quote.
@@ -94,12 +78,10 @@ fn ending_length(text: &[u8], from: usize) -> usize
     let mut n: usize = 0;
     loop {
         let j = bare_run(text, i);
-        let u = unit_at(text, j);
-        let code = u.code;
-        if code == END {
+        let Some(u) = unit_at(text, j) else {
             return n + (j - i) + 1;
-        }
-        n = n + (j - i) + unit_length(code);
+        };
+        n += j - i + unit_length(u.code);
         i = u.next;
     }
 }
@@ -109,10 +91,7 @@ fn near(text: &[u8], from: usize) -> usize
     requires { from ≤ length text.now }
     ensures { (from ≤ result) × (result ≤ length text.now) }
 {
-    if text.len() - from < NEAR {
-        return text.len();
-    }
-    from + NEAR
+    text.len().min(from + NEAR)
 }
 
 // How many bytes the string takes whose opening quote stands in `text` at `q`.
@@ -129,20 +108,18 @@ pub fn string_length(text: &[u8], q: usize) -> usize
 
 // Writes bytes of `text` from `from` on and before `end` to the front of `out` as long as they are written
 // plain, and returns how many.
+#[tactic(auto, using(crate::proofs::StringLaws::copies))]
 fn put_plain(text: &[u8], from: usize, end: usize, out: &mut [u8]) -> usize
     requires { (from ≤ end) × (end ≤ length text.now) × (length (ending text.now from) ≤ length out.old) }
     ensures put { Copied text.now from (from + result) out.old result out.new }
 {
-    let mut i = from;
-    while i < end {
-        let b = text[i];
-        if !is_bare(wide(b)) {
+    for i in from..end {
+        if !bare_at(text, i) {
             return i - from;
         }
-        out[i - from] = b;
-        i += 1;
+        out[i - from] = text[i];
     }
-    i - from
+    end - from
 }
 
 // Writes the rest of a string, from its character in `text` at `from` up to the closing quote, to the front of
@@ -155,16 +132,12 @@ fn put_ending(text: &[u8], from: usize, out: &mut [u8]) -> usize
     let mut p: usize = 0;
     loop {
         let j = bare_run(text, i);
-        let n = put_word(&text[i..j], &mut out[p..]);
-        p += n;
-        let u = unit_at(text, j);
-        let code = u.code;
-        if code == END {
+        p += put_word(&text[i..j], &mut out[p..]);
+        let Some(u) = unit_at(text, j) else {
             out[p] = b'"';
             return p + 1;
-        }
-        let m = put_unit(code, &mut out[p..]);
-        p += m;
+        };
+        p += put_unit(u.code, &mut out[p..]);
         i = u.next;
     }
 }
@@ -183,6 +156,5 @@ pub fn put_string(text: &[u8], q: usize, out: &mut [u8]) -> usize
         out[p] = b'"';
         return p + 1;
     }
-    let m = put_ending(text, i, &mut out[p..]);
-    p + m
+    p + put_ending(text, i, &mut out[p..])
 }

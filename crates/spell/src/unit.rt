@@ -1,4 +1,6 @@
 // One unit of a string in canonical text.
+#![tactic(auto, unfolding(meaning::specs::Canonical::put_unit, crate::specs::Strings::put_hex))]
+
 ghost use Rattle.std.specs.Prelude.{length, [], ◌≡◌, ◌<◌, ◌≤◌};
 ghost use Rattle.meaning.specs.Canonical.{hex_digit, is_bare, put_unit};
 ghost use Rattle.spell.specs.Puts.{Puts};

@@ -7,10 +7,7 @@ pub fn put_word(word: &[u8], out: &mut [u8]) -> usize
     requires { length word.now ≤ length out.old }
     ensures put { Puts word.now out.old result out.new }
 {
-    let mut i = 0;
-    while i < word.len() {
-        out[i] = word[i];
-        i += 1;
-    }
-    i
+    let n = word.len();
+    out[..n].copy_from_slice(word);
+    n
 }

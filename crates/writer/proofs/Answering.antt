@@ -7,9 +7,10 @@ use Rattle.meaning.proofs.Demand2.{canonical_of, six_times}
 use Rattle.meaning.proofs.Reading.{text_keeps}
 use Rattle.meaning.specs.Canonical.{Canonical}
 use Rattle.meaning.specs.Meaning.{meaning}
-use Rattle.reader.proofs.Answering.{ready, stopped}
-use Rattle.reader.specs.Answers.{ReadAs, answer_of}
-use Rattle.reader.specs.declared.answer.Answer.{Answer}
+use Rattle.reader.specs.Answers.{ReadAs, told}
+use Rattle.reader.specs.declared.answer.Input.{Input}
+use Rattle.reader.specs.declared.answer.Refused.{Refused}
+use Rattle.std.specs.Prelude.{Ok, Result}
 use Rattle.text.specs.Bytes.{Bytes}
 use Rattle.text.specs.Node.{Node}
 use Rattle.text.specs.Table.{Words}
@@ -38,16 +39,12 @@ taken v r =
     let c = canonical_of k in
     record { value = v; reading = r; canonical = c; writes = Writes.writes (reading_held r) k refl; short = read_short r; small = six_times x c }
 
-module _ {t : Bytes} {w w' : Words} {a : Answer} where
-  pub accepted : ReadAs 1 t w w' a → a.number ≡ 0 → Accepted t w w'
-  accepted r e = let (v, x) = ready r e in taken v x
-
-  pub refused : (o : Bytes) → ReadAs 1 t w w' a → (a.number ≡ 0 → ⊥) → Writer t w o (answer_of a) w' o
-  refused o r e = Writer.stop (stopped r e)
+pub accepted : {t : Bytes} {w w' : Words} {n : ℕ} → ReadAs Input.First t w w' (Ok n) → Accepted t w w'
+accepted (v, e, r) = taken v r
 
 module _ {t : Bytes} {w w' : Words} (p : Accepted t w w') where
   pub write_asks : (length t ≤ max_text) × ((c : Bytes) × Writes t w' 0 0 c × (length c ≤ 6 * length t))
   write_asks = (p.short, (_, p.writes, p.small))
 
-  pub wrote : {o o' : Bytes} {r : Answer} {w'' : Words} → ((c : Bytes) → Writes t w' 0 0 c → Writing c o (answer_of r) o') → w'' ≡ w' → Writer t w o (answer_of r) w'' o'
-  wrote {o} {o'} {r} f g = subst⁻¹ (λ w'. Writer t w o (answer_of r) w' o') g (Writer.done p.reading p.canonical (f _ p.writes))
+  pub wrote : {o o' : Bytes} (r : Result ℕ Refused) {w'' : Words} → ((c : Bytes) → Writes t w' 0 0 c → Writing c o (told r) o') → w'' ≡ w' → Writer t w o (told r) w'' o'
+  wrote {o} {o'} r f g = subst⁻¹ (λ w'. Writer t w o (told r) w' o') g (Writer.done p.reading p.canonical (f _ p.writes))

@@ -27,7 +27,7 @@ use Rattle.values.specs.Held.{Held, HeldAll, Spelt, Unlinked}
 use Rattle.writer.proofs.Gathered.{gathered_same, gathered_sorted, pairs_of}
 use Rattle.writer.proofs.Inner.{KeepsEach, array_trees, inner, keeps_elements, keeps_members, names_distinct, object_means, tree_at}
 use Rattle.writer.proofs.Naming.{named_none, named_some}
-use Rattle.writer.proofs.Opening.{Inside, opened}
+use Rattle.writer.proofs.Opening.{Inside, opened, writes_room}
 use Rattle.writer.proofs.Spelled.{array_text, each_same, object_text}
 use Rattle.writer.specs.Containers.{container, each}
 use Rattle.writer.specs.Entering.{Cleared, Kept, Opened, opens_object}
@@ -49,13 +49,6 @@ onward_link u b e = fun_ext (λ x. ap (λ q. cond q (link_of u x) (next_of u x))
 onward_next : (u : Words) (b : ℕ) → (b ≡ code "{" → ⊥) → onward u b ≡ next_of u
 unfolding onward
 onward_next u b n = fun_ext (λ x. ap (λ q. cond q (link_of u x) (next_of u x)) (ne_eqb b (code "{") n))
-
--- The entry behind `x`.
-pub follow_link : (u : Words) (b x z : ℕ) → z ≡ link_of u x → b ≡ code "{" → z ≡ onward u b x
-follow_link u b x z e i = e ∙ sym (ap (λ (f : ℕ → ℕ). f x) (onward_link u b i))
-
-pub follow_next : (u : Words) (b x z : ℕ) → z ≡ next_of u x → (b ≡ code "{" → ⊥) → z ≡ onward u b x
-follow_next u b x z e n = e ∙ sym (ap (λ (f : ℕ → ℕ). f x) (onward_next u b n))
 
 -- The entries `cs` of a container whose records follow `r`, in a table with links between them.
 module _ (t : Bytes) (w u : Words) (d r : ℕ) (cs : List Child) (h : HeldAll t w (suc r) cs) (k : KeepsEach (suc d) cs) (f : Frame (places (suc r) cs) w u) where
@@ -111,7 +104,7 @@ module _ (t : Bytes) (w u : Words) (d r n x : ℕ) (ms : Members) (s : Spelt t 0
   unfolding name_of
   entry_text_lem a i =
       let (_, l) = quote_inside s h (p.same.to a i) in
-      ap (λ q. named t q ++ put (value a) []) (p.frame.quote a) ∙ ap (λ z. z ++ put (value a) []) (named_some t {q = word w a 2} refl (λ e. omega (arith, l)))
+      ap (λ q. named t q ++ put (value a) []) (p.frame.quote a) ∙ ap (λ z. z ++ put (value a) []) (named_some t {q = word w a 2} (λ e. omega (arith, l)))
 
   object_entered : (b : ℕ) {c : Bytes} → b ≡ code "{" → put (canon (Tree.object (pairs ms))) [] ≡ c → Ready t u (d + 1) b n x c
   object_entered b {c} e g =
@@ -146,7 +139,7 @@ module _ (t : Bytes) (w : Words) (d r n : ℕ) (vs : Nodes) (h : HeldAll t w (su
   element_text = entry_text t w w d r (elements vs) h (keeps_elements vs (inner_trees k)) (frame_refl (places (suc r) (elements vs)) w)
 
   element_text_lem : (a : ℕ) → In a (places (suc r) (elements vs)) → element_text a ≡ put (tree_at (elements vs) (suc r) a) []
-  element_text_lem a i = ap (λ z. z ++ put (tree_at (elements vs) (suc r) a) []) (named_none t {q = word w a 2} refl (elements_unnamed vs h i))
+  element_text_lem a i = ap (λ z. z ++ put (tree_at (elements vs) (suc r) a) []) (named_none t {q = word w a 2} (elements_unnamed vs h i))
 
   array_entered : (b : ℕ) {c : Bytes} → b ≡ code "[" → put (canon (Tree.array (trees vs))) [] ≡ c → Ready t w (d + 1) b n (r + 1) c
   unfolding canon
@@ -240,3 +233,6 @@ module _ {t : Bytes} {w : Words} {r d b : ℕ} {c : Bytes} (x : Writes t w r d c
     pub array_kept : (b ≡ code "{" → ⊥) → Kept w w b n (r + 1)
     unfolding Cleared
     array_kept i = record { room = room; back = λ a q. subst (λ s. Cleared s (siblings_of w n (r + 1)) w a) (ne_eqb b (code "{") i) q }
+
+-- What entering a container and leaving it need.
+pub ruleset enters_and_leaves = (writes_room, cleared_array, cleared_object)

@@ -4,35 +4,24 @@ use Prim.Native.Nat.{◌+◌, ◌-◌, ◌<◌, ◌≤◌, suc, zero, ℕ}
 use Rattle.members.specs.Chains.{walk}
 use Rattle.members.specs.Lists.{In}
 use Rattle.spell.proofs.Joining.{put_as}
-use Rattle.spell.proofs.Putting.{lend, lend_fits, lend_start, put_byte, put_length, put_none, rest}
+use Rattle.spell.proofs.Putting.{lend, lend_fits, lend_start, put_byte, put_length, rest}
 use Rattle.spell.specs.Puts.{Puts}
 use Rattle.text.specs.Bytes.{Bytes}
 use Rattle.text.specs.Table.{Words}
 use Rattle.writer.specs.Containers.{closed, closing, container, each}
 use Rattle.writer.specs.Walks.{Going, Ready, entries_of, mark, onward}
 use Rattle.writer.specs.Writes.{Entry}
-use borrow.Author.Tests.{eq-eqb, ne_eqb}
+use borrow.Author.Tests.{ne_eqb}
 use lib.ListN.{drop, length, length-append, length-set, set, take}
 use mathlib.Core.Bool.{cond}
 use mathlib.Core.List.{[], ◌++◌, ◌∷◌, append_assoc, append-nil}
 use mathlib.Core.Path.{◌∙◌, ◌≡◌, ap, refl, subst⁻¹, sym}
 use native.Mathlib.Omega.{arith}
 
--- What stands behind an entry.
-pub mark_last : (b i : ℕ) → i ≡ 0 → b + 2 ≡ mark b i
-mark_last b i e = ap (λ q. cond q (closing b) (code ",")) (sym (eq-eqb i 0 e))
-
-pub mark_next : (b i : ℕ) → (i ≡ 0 → ⊥) → code "," ≡ mark b i
-mark_next b i n = ap (λ q. cond q (closing b) (code ",")) (sym (ne_eqb i 0 n))
-
 -- An empty container is two bytes.
 pub empty_length : (b : ℕ) → length (container b []) ≡ 2
 unfolding container
 empty_length b = refl
-
-pub empty_puts : (b : ℕ) (o : Bytes) → 2 ≤ length o → Puts (container b []) o 2 (set (set o 0 b) 1 (b + 2))
-unfolding container
-empty_puts b o l = put_byte (put_byte (put_none o) (omega arith) b (omega arith)) (omega arith) (b + 2) (omega arith)
 
 -- An entry, what stands behind it, and the entries behind that.
 closed_step : (f : ℕ → Bytes) (g : ℕ → ℕ) (b i x : ℕ) → closed (closing b) (each f (walk g (suc i) x)) ≡ f x ++ (mark b i ∷ closed (closing b) (each f (walk g i (g x))))

@@ -43,11 +43,20 @@ leaf_at (Holds.number s) o = record { scalar = s; whole = refl; sorted = refl }
 leaf_at (Holds.array e h) o = absurd (true≢false (sym (ap opens_container e) ∙ o))
 leaf_at (Holds.object e s h) o = absurd (true≢false (sym (ap opens_container e) ∙ o))
 
-pub leaf : {t : Bytes} {w : Words} {r p q : ℕ} {v : Node} → Held t w r v → p ≡ word w r 0 % low_part → q ≡ word w r 1 % low_part
-    → opens_container (get_or t p 0) ≡ false → Leaf t p q v
-leaf {t} {q = q} {v = v} (Held.held x i y) e f o =
-    let a = e ∙ x.first in
-    subst (λ p. Leaf t p q v) (sym a) (subst (λ q. Leaf t (start v) q v) (sym (f ∙ x.last)) (leaf_at y (ap (λ p. opens_container (get_or t p 0)) (sym a) ∙ o)))
+module _ {t : Bytes} {w : Words} {r p q : ℕ} {v : Node} (h : Held t w r v) (e : p ≡ word w r 0 % low_part) (f : q ≡ word w r 1 % low_part) (o : opens_container (get_or t p 0) ≡ false) where
+  pub leaf : Leaf t p q v
+  leaf = by h
+    where
+      by : Held t w r v → Leaf t p q v
+      by (Held.held x i y) =
+          let a = e ∙ x.first in
+          subst (λ p. Leaf t p q v) (sym a) (subst (λ q. Leaf t (start v) q v) (sym (f ∙ x.last)) (leaf_at y (ap (λ p. opens_container (get_or t p 0)) (sym a) ∙ o)))
+
+  pub own_scalar : Scalar t p q (tree v)
+  own_scalar = leaf.scalar
+
+  pub own_leaf : own (tree v) ≡ length (put (tree v) [])
+  own_leaf = leaf.whole
 
 -- A container counts both brackets if the next record is the one behind its own, else one byte.
 pub record Box (n r z : ℕ) : Type 0 where
@@ -72,7 +81,16 @@ box_at (Holds.number s) e o = absurd (not_scalar s o)
 box_at (Holds.array {vs = vs} f h) e o = array_box vs e
 box_at (Holds.object {ms = ms} f s h) e o = object_box ms e
 
-pub box : {t : Bytes} {w : Words} {n r p : ℕ} {v : Node} → Held t w r v → p ≡ word w r 0 % low_part → n ≡ next_of w r
-    → opens_container (get_or t p 0) ≡ true → Box n r (own (tree v))
-unfolding next_of
-box {t} (Held.held x i y) e f o = box_at y (f ∙ x.next) (ap (λ p. opens_container (get_or t p 0)) (sym (e ∙ x.first)) ∙ o)
+module _ {t : Bytes} {w : Words} {n r p : ℕ} {v : Node} (h : Held t w r v) (e : p ≡ word w r 0 % low_part) (f : n ≡ next_of w r) (o : opens_container (get_or t p 0) ≡ true) where
+  box : Box n r (own (tree v))
+  unfolding next_of
+  box = by h
+    where
+      by : Held t w r v → Box n r (own (tree v))
+      by (Held.held x i y) = box_at y (f ∙ x.next) (ap (λ p. opens_container (get_or t p 0)) (sym (e ∙ x.first)) ∙ o)
+
+  pub own_empty : n ≡ r + 1 → own (tree v) ≡ 2
+  own_empty g = sym (box.empty g)
+
+  pub own_full : (n ≡ r + 1 → ⊥) → own (tree v) ≡ 1
+  own_full g = sym (box.full g)

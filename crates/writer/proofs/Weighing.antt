@@ -13,6 +13,8 @@ use Rattle.text.specs.Table.{Words, size, size_all, size_members, unnamed}
 use Rattle.values.specs.Children.{Child, elements, members}
 use Rattle.values.specs.Held.{Held, HeldAll, Holds, Spelt}
 use Rattle.writer.proofs.Bounds.{named_most, own_most}
+use Rattle.values.proofs.Records.{held_few, held_onward, held_room, held_start}
+use Rattle.writer.proofs.Owning.{own_empty, own_full, own_leaf, own_scalar}
 use Rattle.writer.proofs.Naming.{none_length, some_length}
 use Rattle.writer.specs.Pending.{Countable, Counts, Pending, children, weights}
 use Rattle.writer.specs.Writes.{Nameable, Writes, named}
@@ -33,14 +35,14 @@ module _ (t : Bytes) where
   elements_weight : (vs : Nodes) → weights t (elements vs) ≡ weigh_all (trees vs)
   unfolding weights elements tree weigh
   elements_weight Nodes.nil = refl
-  elements_weight (Nodes.cons v vs) = omega (arith, none_length t {q = unnamed} refl refl, elements_weight vs)
+  elements_weight (Nodes.cons v vs) = omega (arith, none_length t {q = unnamed} refl, elements_weight vs)
 
   module _ (small : length t ≤ max_text) where
     name_weight : (q : ℕ) (us : Units) → q < length t → name_at t q ≡ us → length (named t q) ≡ called us
     unfolding called
     name_weight q us l e =
         let n : q ≡ unnamed → ⊥ = λ f. omega arith in
-        omega (arith, some_length t {q = q} refl n, ap (λ u. length (quoted u)) e)
+        omega (arith, some_length t {q = q} n, ap (λ u. length (quoted u)) e)
 
     members_weight : {b : ℕ} (ms : Members) → Spelt t b ms → weights t (members ms) ≡ weigh_pairs (pairs ms)
     unfolding weights members tree weigh
@@ -159,3 +161,6 @@ pub tally_end : {t : Bytes} {w : Words} {r end n k d : ℕ} {c : Bytes} → Tall
 tally_end s l (Writes.writes {v = v} h k e) =
     let x = s.left v h in
     omega (arith, x.sum, pending_none x.pending l, canon_weigh (tree v), ap length e)
+
+-- What measuring a record needs.
+pub ruleset measuring = (held_room, held_few, held_onward, held_start, own_empty, own_full, own_leaf, own_scalar, named_most, own_most)

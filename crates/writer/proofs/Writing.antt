@@ -18,10 +18,9 @@ use Rattle.text.specs.Ceilings.{max_depth}
 use Rattle.text.specs.Table.{Words}
 use Rattle.writer.proofs.Opening.{Alone, Inside, alone, opened, writes_inside, writes_room}
 use Rattle.writer.specs.Entering.{Cleared, Kept, Opened, opens_object}
-use Rattle.writer.specs.Writes.{Entry, Nameable, Writes, named}
-use borrow.Author.Tests.{not-false, not-true}
+use Rattle.writer.specs.Writes.{Entry, Writes, named}
 use lib.ListN.{drop, get_or, length, length-append, take}
-use mathlib.Core.Bool.{Bool, false, not, true}
+use mathlib.Core.Bool.{Bool, false, true}
 use mathlib.Core.List.{[], ◌++◌}
 use mathlib.Core.Path.{◌∙◌, ◌≡◌, ap, subst, subst⁻¹, sym}
 use native.Mathlib.Omega.{arith}
@@ -30,9 +29,6 @@ use native.Mathlib.Omega.{arith}
 module _ {t : Bytes} {w : Words} {x d : ℕ} {e : Bytes} where
   pub entry_room : Entry t w x d e → Room w x
   entry_room (Entry.entry n y f) = (writes_room y).0
-
-  pub entry_nameable : Entry t w x d e → Nameable t (word w x 2)
-  entry_nameable (Entry.entry n y f) = n
 
   pub name_fits : (o : Bytes) → Entry t w x d e → length e ≤ length o → length (named t (word w x 2)) ≤ length o
   name_fits o (Entry.entry {c} n y f) l = omega (arith, l, ap length f, length-append (named t (word w x 2)) c)
@@ -46,9 +42,9 @@ module _ {t : Bytes} {w : Words} {x d : ℕ} {e : Bytes} where
     entry_puts q (Entry.entry {c} z y f) = put_as f (lend p m (q c y))
 
 -- A value without values inside it.
-module _ {t : Bytes} {w : Words} {r d : ℕ} {c : Bytes} (y : Writes t w r d c) {p q : ℕ} (a : p ≡ word w r 0 % low_part) (b : q ≡ word w r 1 % low_part) {z : Bool} (n : not z ≡ true) (e : z ≡ opens_container (get_or t p 0)) where
+module _ {t : Bytes} {w : Words} {r d : ℕ} {c : Bytes} (y : Writes t w r d c) {p q : ℕ} (a : p ≡ word w r 0 % low_part) (b : q ≡ word w r 1 % low_part) {z : Bool} (n : z ≡ false) (e : z ≡ opens_container (get_or t p 0)) where
   single : Alone t w r c
-  single = alone y (sym (ap (λ p. opens_container (get_or t p 0)) a) ∙ sym e ∙ not-true z n)
+  single = alone y (sym (ap (λ p. opens_container (get_or t p 0)) a) ∙ sym e ∙ n)
 
   scalar : Scalar t p q single.value
   scalar = subst⁻¹ (λ p. Scalar t p q single.value) a (subst⁻¹ (λ q. Scalar t (word w r 0 % low_part) q single.value) b single.scalar)
@@ -60,8 +56,8 @@ module _ {t : Bytes} {w : Words} {r d : ℕ} {c : Bytes} (y : Writes t w r d c) 
   scalar_puts f = put_as single.text (f single.value scalar)
 
 -- A container.
-pub opened_at : {t : Bytes} {w : Words} {r p : ℕ} {z : Bool} → p ≡ word w r 0 % low_part → not z ≡ false → z ≡ opens_container (get_or t p 0) → Opened t w r (get_or t p 0)
-opened_at {t} {p = p} {z} a n e = record { byte = ap (λ p. get_or t p 0) (sym a); kind = sym e ∙ not-false z n }
+pub opened_at : {t : Bytes} {w : Words} {r p : ℕ} {z : Bool} → p ≡ word w r 0 % low_part → z ≡ true → z ≡ opens_container (get_or t p 0) → Opened t w r (get_or t p 0)
+opened_at {t} {p = p} {z} a n e = record { byte = ap (λ p. get_or t p 0) (sym a); kind = sym e ∙ n }
 
 pub opened_small : {t : Bytes} {w : Words} {r b : ℕ} → Opened t w r b → b + 2 < 256
 opened_small {b = b} o = omega (arith, opens_low b o.kind)

@@ -1,4 +1,6 @@
 // Entering a container: its entries in the order in which they are written.
+#![tactic(auto, using(crate::proofs::Entered::enters_and_leaves))]
+
 ghost use Rattle.std.specs.Prelude.{◌+◌, ℕ};
 ghost use Rattle.members.specs.Chains.{siblings_of};
 ghost use Rattle.members.specs.Lists.{In};

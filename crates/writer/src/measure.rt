@@ -1,4 +1,6 @@
 // The exact length of a canonical text. Order doesn't matter to a length, so one walk over the records is enough.
+#![tactic(auto, using(crate::proofs::Weighing::measuring))]
+
 ghost use Rattle.std.specs.Prelude.{◌≤◌, ℕ, length, ◌≡◌};
 ghost use Rattle.entries.specs.Answer.{max_text};
 ghost use Rattle.meaning.proofs.Weight.{own};
@@ -47,10 +49,8 @@ pub fn needed(text: &[u8], table: &[u32], r: usize) -> usize
 {
     let end = next(table, r);
     let mut n = own_length(text, table, r);
-    let mut k = r + 1;
-    while k < end {
+    for k in r + 1..end {
         n += entry_length(text, table, k);
-        k += 1;
     }
     n
 }

@@ -1,5 +1,7 @@
 // The canonical text of a value of the table. Values inside values are written by recursion, at most 64
 // deep, since no text opens more containers at once.
+#![tactic(auto, unfolding(crate::specs::Walks::onward, crate::specs::Containers::container))]
+
 ghost use Rattle.std.specs.Prelude.{◌+◌, ◌<◌, ◌≤◌, length, [], ◌≡◌};
 ghost use Rattle.members.specs.Records.{Room};
 ghost use Rattle.spell.specs.Puts.{Puts};
@@ -11,6 +13,7 @@ ghost use Rattle.writer.specs.Writes.{Entry, Writes};
 
 use crate::enter::{enter, leave};
 use crate::name::put_name;
+use members::chain::Chain;
 use members::link::link;
 use members::record::next;
 use reader::value::is_open;
@@ -57,37 +60,32 @@ fn put_entry(text: &[u8], table: &mut [u32], x: usize, depth: usize, out: &mut [
     ensures same { table.new ≡ table.old }
 {
     let n = put_name(text, table, x, out);
-    let m = put_value(text, table, x, depth, &mut out[n..]);
-    n + m
+    n + put_value(text, table, x, depth, &mut out[n..])
 }
 
-// Writes what `b` opens, with the `count` entries from `head` on, to the front of `out`.
+// Writes what `b` opens, with its `entries`, to the front of `out`.
 #[cycle(put_entries_put_entry_put_value)]
 fn put_entries(
     text: &[u8],
     table: &mut [u32],
     b: u8,
-    head: usize,
-    count: usize,
+    entries: Chain,
     depth: usize,
     out: &mut [u8],
 ) -> usize
-    requires { (depth ≤ max_depth) × (b + 2 < 256) × ((c : Bytes) × Ready text.now table.old depth b count head c × (length c ≤ length out.old)) }
-    ensures put { (c : Bytes) → Ready text.now table.old depth b count head c → Puts c out.old result out.new }
+    requires { (depth ≤ max_depth) × (b + 2 < 256) × ((c : Bytes) × Ready text.now table.old depth b entries.count entries.head c × (length c ≤ length out.old)) }
+    ensures put { (c : Bytes) → Ready text.now table.old depth b entries.count entries.head c → Puts c out.old result out.new }
     ensures same { table.new ≡ table.old }
 {
-    if count == 0 {
+    if entries.count == 0 {
         return put_empty(b, out);
     }
     out[0] = b;
     let mut at: usize = 1;
-    let mut x = head;
-    let mut i = count;
-    while 0 < i {
-        let n = put_entry(text, table, x, depth, &mut out[at..]);
-        at += n;
-        i -= 1;
-        out[at] = mark_behind(b, i);
+    let mut x = entries.head;
+    for left in (0..entries.count).rev() {
+        at += put_entry(text, table, x, depth, &mut out[at..]);
+        out[at] = mark_behind(b, left);
         at += 1;
         x = follow(table, b, x);
     }
@@ -108,9 +106,7 @@ pub fn put_value(text: &[u8], table: &mut [u32], r: usize, depth: usize, out: &m
         return put_scalar(text, at, behind(table, r), out);
     }
     let c = enter(text, table, r, b);
-    let head = c.head;
-    let count = c.count;
-    let n = put_entries(text, table, b, head, count, depth + 1, out);
-    leave(table, b, r + 1, count);
+    let n = put_entries(text, table, b, c, depth + 1, out);
+    leave(table, b, r + 1, c.count);
     n
 }

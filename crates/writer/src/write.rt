@@ -2,42 +2,45 @@
 ghost use Rattle.std.specs.Prelude.{◌*◌, ◌≤◌, length, ◌≡◌};
 ghost use Rattle.entries.specs.Answer.{Writing, max_text};
 ghost use Rattle.entries.specs.Entries.{Writer};
-ghost use Rattle.reader.specs.Answers.{answer_of};
+ghost use Rattle.reader.specs.Answers.{told};
 ghost use Rattle.text.specs.Bytes.{Bytes};
 ghost use Rattle.writer.specs.Writes.{Writes};
 
 use crate::measure::needed;
 use crate::put::put_value;
-use reader::answer::{Answer, refusal, success};
+use reader::answer::{Input, Refused};
 use reader::limits::MAX_TEXT;
 use reader::read::read_text;
+use scan::refusal::Refusal;
 
 // Writes a text that was read to the front of `out`. The exact length is known before a byte is written, so
 // a refusal leaves the output as it is.
-fn write_read(text: &[u8], table: &mut [u32], out: &mut [u8]) -> Answer
+fn write_read(text: &[u8], table: &mut [u32], out: &mut [u8]) -> Result<u32, Refused>
     requires { (length text.now ≤ max_text) × ((c : Bytes) × Writes text.now table.old 0 0 c × (length c ≤ 6 * length text.now)) }
-    ensures writing { (c : Bytes) → Writes text.now table.old 0 0 c → Writing c out.old (answer_of result) out.new }
+    ensures writing { (c : Bytes) → Writes text.now table.old 0 0 c → Writing c out.old (told result) out.new }
     ensures same { table.new ≡ table.old }
 {
     let n = needed(text, table, 0);
     if MAX_TEXT < n {
-        return refusal(13, 3, n);
+        return Err(Refused {
+            refusal: Refusal::LongOutput(n),
+            input: Input::Output,
+        });
     }
     if out.len() < n {
-        return refusal(12, 3, n);
+        return Err(Refused {
+            refusal: Refusal::NarrowOutput(n),
+            input: Input::Output,
+        });
     }
     put_value(text, table, 0, 0, out);
-    success(n)
+    Ok(n as u32)
 }
 
 // Reads `text`, fills `table` with its records, and writes its canonical text to the front of `out`.
-pub fn write_text(text: &[u8], table: &mut [u32], out: &mut [u8]) -> Answer
-    ensures writer { Writer text.now table.old out.old (answer_of result) table.new out.new }
+pub fn write_text(text: &[u8], table: &mut [u32], out: &mut [u8]) -> Result<u32, Refused>
+    ensures writer { Writer text.now table.old out.old (told result) table.new out.new }
 {
-    let a = read_text(text, table, 1);
-    let number = a.number;
-    if number != 0 {
-        return a;
-    }
+    read_text(text, table, Input::First)?;
     write_read(text, table, out)
 }

@@ -1,60 +1,61 @@
 -- The first byte of the value tells where the token is looked for.
-use Rattle.lookup.proofs.Shapes.{array_step, object_step, shape}
+use Rattle.lookup.proofs.Finding.{is_named, named_by}
+use Rattle.lookup.proofs.Shapes.{array_none, array_step, inside_goes, member_room, object_step, shape}
 use Rattle.lookup.specs.Steps.{Stepped}
 use Rattle.lookup.specs.Tokens.{token_units}
-use Rattle.values.proofs.Records.{held_few, held_onward, held_room, held_start}
-use mathlib.Core.Path.{refl, subst⁻¹}
+use Rattle.members.proofs.Walking.{at_in, walk_yields}
+use Rattle.std.proofs.Common.{of_calls, rules}
+use Rattle.std.proofs.lemmas.Iterator.Adapters.{serves_from_places}
+use Rattle.std.proofs.lemmas.Iterator.Consumers.{nth_from_yields_List}
+use Rattle.std.proofs.lemmas.Iterator.Search.{find_from_yields_List}
+use mathlib.Core.Path.{subst⁻¹}
 use native.Mathlib.Omega.{arith}
 use Rattle.lookup.proofs.child.child_of.Goals as goal
 
-pub start-at-requires : goal.start-at-requires
-start-at-requires c = held_room c.requires.1
+pub find-requires-clause-can : goal.find-requires-clause-can
+find-requires-clause-can c = inside_goes c.siblings-inside.ensures ((shape _ c.requires.1 c.start.ensures c.next.ensures).object c.in-123.is).inside
 
-pub bounds-text-at : goal.bounds-text-at
-bounds-text-at c = omega (arith, c.start-at.ensures, held_start c.requires.1)
+pub find-requires-clause-callable : goal.find-requires-clause-callable
+find-requires-clause-callable c =
+    let o = (shape _ c.requires.1 c.start.ensures c.next.ensures).object c.in-123.is in
+    serves_from_places (walk_yields c.siblings-inside.ensures o.inside.siblings) (λ x q k. search rules) (λ x k h e. let n = member_room o (at_in _ k x h e) in search of_calls)
 
-pub next-end-requires : goal.next-end-requires
-next-end-requires c = held_room c.requires.1
-
-pub overflow_add-r : goal.overflow_add-r
-overflow_add-r c = let h = c.requires.1 in omega (arith, held_onward h, held_few h)
-
-pub member-requires : goal.member-requires
-member-requires c =
-    let o = (shape _ c.requires.1 c.start-at.ensures c.next-end.ensures).object c.if-b-eq123.true in
-    (o.values, o.listed)
-
-pub returns-then-b-eq123 : goal.returns-then-b-eq123
-returns-then-b-eq123 c =
+pub returns-in-123 : goal.returns-in-123
+returns-in-123 c =
     record {
       stepped =
           λ p v h.
-          let o = (shape _ h c.start-at.ensures c.next-end.ensures).object c.if-b-eq123.true in
-          object_step p (token_units c.args.token.now) o (c.member.ensures.stepped p);
+          let o = (shape _ h c.start.ensures c.next.ensures).object c.in-123.is in
+          let us = token_units c.args.token.now in
+          object_step p us o (find_from_yields_List (is_named c.args.text.now c.args.table.now us) _ _ c.find.result c.find.ensures.ran (walk_yields c.siblings-inside.ensures o.inside.siblings) (λ x b q k. search (rules, named_by)));
     }
 
-pub overflow_add-r-then-b-eq91 : goal.overflow_add-r-then-b-eq91
-overflow_add-r-then-b-eq91 c = let h = c.requires.1 in omega (arith, held_onward h, held_few h)
+pub nth-requires : goal.nth-requires
+nth-requires c = inside_goes c.siblings-inside.ensures ((shape _ c.requires.1 c.start.ensures c.next.ensures).array c.in-91.is).inside
 
-pub element-requires : goal.element-requires
-element-requires c =
-    let a = (shape _ c.requires.1 c.start-at.ensures c.next-end.ensures).array c.if-b-eq91.true in
-    (_, a.values, a.inside)
-
-pub returns-then-b-eq91 : goal.returns-then-b-eq91
-returns-then-b-eq91 c =
+pub returns-in_err-index_of-in-91 : goal.returns-in_err-index_of-in-91
+returns-in_err-index_of-in-91 c =
     record {
       stepped =
           λ p v h.
-          let a = (shape _ h c.start-at.ensures c.next-end.ensures).array c.if-b-eq91.true in
-          array_step p (token_units c.args.token.now) _ a c.index_of.ensures.index (c.element.ensures.stepped _ p);
+          let a = (shape _ h c.start.ensures c.next.ensures).array c.in-91.is in
+          rw c.from_residual.ensures (array_none p (token_units c.args.token.now) a c.in_err-index_of-in-91.ensures.index);
     }
 
-pub returns : goal.returns
-returns c =
+pub returns-in_ok-index_of-in-91 : goal.returns-in_ok-index_of-in-91
+returns-in_ok-index_of-in-91 c =
     record {
       stepped =
           λ p v h.
-          let f = (shape _ h c.start-at.ensures c.next-end.ensures).flat c.if-b-eq123.false c.if-b-eq91.false p (token_units c.args.token.now) in
-          subst⁻¹ (Stepped _ _ p _) f (Stepped.lost refl);
+          let a = (shape _ h c.start.ensures c.next.ensures).array c.in-91.is in
+          array_step p (token_units c.args.token.now) a c.in_ok-index_of-in-91.ensures.index (nth_from_yields_List c.nth.result _ _ c.nth.ensures.ran (walk_yields c.siblings-inside.ensures a.inside.siblings));
+    }
+
+pub returns-in_default : goal.returns-in_default
+returns-in_default c =
+    record {
+      stepped =
+          λ p v h.
+          let f = (shape _ h c.start.ensures c.next.ensures).flat (λ e. omega arith) (λ e. omega arith) p (token_units c.args.token.now) in
+          subst⁻¹ (Stepped _ _ p _) f Stepped.lost;
     }

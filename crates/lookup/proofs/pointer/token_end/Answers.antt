@@ -1,29 +1,16 @@
--- No `/` stands before `i`, so that the first from `at` on is the first from `i` on.
-use Rattle.lookup.proofs.Ends.{before_end, before_next, before_slash_lem, token_to}
-use mathlib.Core.Path.{◌∙◌, refl}
+use Rattle.lookup.proofs.Ends.{before_slash, end_bound, first_slash, is_slash, slice_from, token_to}
+use Rattle.std.proofs.Common.{rules}
+use Rattle.std.proofs.lemmas.Iterator.{YieldsList-from_slice}
+use Rattle.std.proofs.lemmas.Iterator.Search.{position_from_yields_List}
+use borrow.Author.Tests.{tests}
+use mathlib.Core.Path.{◌≡◌}
+use Prim.Native.Nat.{◌+◌}
 use native.Mathlib.Omega.{arith}
 use Rattle.lookup.proofs.pointer.token_end.Goals as goal
 
-pub loop-i-init : goal.loop-i-init
-loop-i-init c = (omega arith, c.requires.0, refl)
-
-pub returns-then-pointer-i-eq47 : goal.returns-then-pointer-i-eq47
-returns-then-pointer-i-eq47 c =
-    record {
-      token =
-          let l = c.loop-i.invariant in
-          λ us ts x. token_to _ _ _ l.0 l.1 (l.2 ∙ before_slash_lem _ _ c.loop-i-test.true c.if-pointer-i-eq47.true) x;
-    }
-
-pub loop-i-preserved : goal.loop-i-preserved
-loop-i-preserved c =
-    let l = c.loop-i.invariant in
-    (omega arith, omega arith, l.2 ∙ before_next _ _ c.loop-i-test.true c.if-pointer-i-eq47.false)
-
 pub returns : goal.returns
 returns c =
-    record {
-      token =
-          let l = c.loop-i.invariant in
-          λ us ts x. token_to _ _ _ l.0 l.1 (l.2 ∙ before_end _ _ c.loop-i-test.false) x;
-    }
+    let s = slice_from c.args.pointer.now c.args.at in
+    let e = first_slash s _ (position_from_yields_List is_slash _ _ c.position.result c.position.ensures.ran (YieldsList-from_slice s c.iter.ensures.rest) (λ x b q k. search (rules, tests))) in
+    let n : c.args.at + c.unwrap_or.result ≡ c.args.at + before_slash s = omega (arith, c.unwrap_or.ensures, e) in
+    record { onward = omega arith; bound = end_bound _ _ _ c.requires.0 n; token = λ us ts x. token_to _ _ _ c.requires.0 n x }

@@ -1,13 +1,11 @@
 use Rattle.members.proofs.Naming.{names_differ}
-use mathlib.Core.Bool.{false≢true}
-use native.Mathlib.Omega.{arith}
+use Rattle.std.proofs.Common.{arith}
 use Rattle.members.proofs.name.differ_here.Goals as goal
+use Rattle.members.proofs.name.differ_here.Goals.{else-x-y, then-x-y}
 
-pub returns-then-text-i : goal.returns-then-text-i
-returns-then-text-i c = λ e. absurd (false≢true e)
-
-pub returns-then-text-j : goal.returns-then-text-j
-returns-then-text-j c = λ e. absurd (false≢true e)
-
-pub returns : goal.returns
-returns c = λ e. names_differ c.args.text.now c.args.i c.args.j (omega arith) (omega arith) e
+pub returns-then-x-ne92 : goal.returns-then-x-ne92
+returns-then-x-ne92 c =
+    λ h. elim c.if-x-y.branch [
+      | then-x-y w ↦ names_differ _ _ _ _ _ c.in-Some-Some.ensures.lookup.3 c.in-Some-Some.ensures'.lookup.3 w.if-x-y.true (grind arith) (grind arith)
+      | else-x-y w ↦ grind arith
+    ]

@@ -1,34 +1,22 @@
--- The siblings before `r` have different names.
-use Rattle.members.proofs.Pairing.{pair_end, pair_found, pair_front, pair_named, pair_start, pair_turn}
-use native.Mathlib.Omega.{arith}
+-- Each sibling is asked whether one before it has its name.
+use Rattle.members.proofs.Pairing.{Tells, pairs_found, row_before}
+use Rattle.members.proofs.Walking.{at_in, walk_yields}
+use Rattle.members.specs.Names.{name_of}
+use Rattle.std.proofs.Common.{false, of_calls, rules, true}
+use Rattle.std.proofs.lemmas.Iterator.Adapters.{serves_from_places}
+use Rattle.std.proofs.lemmas.Iterator.{first_from_find}
 use Rattle.members.proofs.pairs.by_pairs.Goals as goal
 
-pub loop-r-init : goal.loop-r-init
-loop-r-init c = pair_start c.requires.siblings
-
-pub seen_before-requires : goal.seen_before-requires
-seen_before-requires c = (pair_front c.requires c.loop-r.invariant, pair_named c.requires c.loop-r.invariant c.loop-r-test.true)
-
-pub returns-then-seen_before : goal.returns-then-seen_before
-returns-then-seen_before c =
-    record {
-      earliest =
-          let p = c.loop-r.invariant in
-          pair_found p c.loop-r-test.true (rw c.if-seen_before.true at (c.seen_before.ensures.seen p.done p.front));
-    }
-
-pub next-r-requires : goal.next-r-requires
-next-r-requires c = (pair_named c.requires c.loop-r.invariant c.loop-r-test.true).0
-
-pub loop-r-smaller : goal.loop-r-smaller
-loop-r-smaller c =
-    let p = c.loop-r.invariant in
-    omega (arith, c.loop-r-test.true, (pair_turn p _ c.loop-r-test.true (rw c.if-seen_before.false at (c.seen_before.ensures.seen p.done p.front)) c.next-r.ensures).0)
-
-pub loop-r-preserved : goal.loop-r-preserved
-loop-r-preserved c =
-    let p = c.loop-r.invariant in
-    (pair_turn p _ c.loop-r-test.true (rw c.if-seen_before.false at (c.seen_before.ensures.seen p.done p.front)) c.next-r.ensures).1
+pub find-requires-clause-callable : goal.find-requires-clause-callable
+find-requires-clause-callable c =
+    serves_from_places (walk_yields c.siblings.ensures c.requires.siblings) (λ x q k. search rules)
+    (λ x k h e. let n = row_before c.requires x (at_in _ k x h e) in search of_calls)
 
 pub returns : goal.returns
-returns c = record { earliest = pair_end c.loop-r.invariant c.loop-r-test.false }
+returns c =
+    record {
+      earliest = λ l s.
+          let name = name_of c.args.text.now c.args.table.now in
+          let tells = Tells name c.args.table.now c.args.first in
+          pairs_found name _ _ s _ (first_from_find _ _ _ (tells true) (tells false) c.find.ensures.ran (walk_yields c.siblings.ensures s) (λ x q k. search rules) (λ x q k. search rules));
+    }

@@ -1,26 +1,23 @@
--- No sibling before `p` has the name.
-use Rattle.members.proofs.Looking.{look_end, look_found, look_named, look_start, look_turn}
-use Rattle.members.proofs.Ordering.{same_no, same_yes}
-use native.Mathlib.Omega.{arith}
+-- The siblings before `r` have their names in the text, and each is asked whether it has that of `r`.
+use Rattle.members.proofs.Looking.{Tells, seen_by}
+use Rattle.members.proofs.RowLaws.{row_seats}
+use Rattle.members.proofs.Walking.{at_in, walk_yields}
+use Rattle.members.specs.Names.{name_of}
+use Rattle.std.proofs.Common.{false, of_calls, rules, true}
+use Rattle.std.proofs.lemmas.Iterator.Adapters.{serves_from_places}
+use Rattle.std.proofs.lemmas.Iterator.{cases_from_any}
 use Rattle.members.proofs.pairs.seen_before.Goals as goal
 
-pub loop-p-init : goal.loop-p-init
-loop-p-init c = look_start c.requires.0
-
-pub same_name-requires : goal.same_name-requires
-same_name-requires c = (look_named c.loop-p.invariant c.loop-p-test.true c.requires.0.long, c.requires.1)
-
-pub returns-then-same_name : goal.returns-then-same_name
-returns-then-same_name c = record { seen = look_found c.loop-p.invariant c.loop-p-test.true (same_yes _ _ _ c.same_name.ensures c.if-same_name.true) }
-
-pub next-p-requires : goal.next-p-requires
-next-p-requires c = (look_named c.loop-p.invariant c.loop-p-test.true c.requires.0.long).0
-
-pub loop-p-smaller : goal.loop-p-smaller
-loop-p-smaller c = omega (arith, c.loop-p-test.true, (look_turn c.loop-p.invariant _ c.loop-p-test.true (same_no _ _ _ c.same_name.ensures c.if-same_name.false) c.next-p.ensures).0)
-
-pub loop-p-preserved : goal.loop-p-preserved
-loop-p-preserved c = (look_turn c.loop-p.invariant _ c.loop-p-test.true (same_no _ _ _ c.same_name.ensures c.if-same_name.false) c.next-p.ensures).1
+pub any-requires-clause-callable : goal.any-requires-clause-callable
+any-requires-clause-callable c =
+    serves_from_places (walk_yields c.siblings.ensures c.requires.0.siblings) (λ x q k. search rules)
+    (λ x k h e. let n = (row_seats c.requires.0 c.requires.0.siblings x (at_in _ k x h e)).1 in search of_calls)
 
 pub returns : goal.returns
-returns c = record { seen = look_end c.loop-p.invariant c.loop-p-test.false }
+returns c =
+    record {
+      seen = λ l s.
+          let name = name_of c.args.text.now c.args.table.now in
+          let r = c.args.r in
+          seen_by name l r _ (cases_from_any _ _ _ (Tells name r true) (Tells name r false) c.any.ensures.ran (walk_yields c.siblings.ensures s) (λ x q k. search rules) (λ x q k. search rules));
+    }

@@ -1,6 +1,6 @@
 -- By the count, which halves: each half becomes a chain in the opposite order, and merging turns it round.
-use Rattle.members.proofs.Halving.{all_sorted, halved, left_free, merge_ready, one_after, one_sorted, right_free, some_in}
-use Rattle.std.proofs.Common.{arith, ◌/◌, ◌∙◌}
+use Rattle.members.proofs.Halving.{all_sorted, left_free, merge_ready, one_after, one_sorted, right_free, some_in}
+use Rattle.std.proofs.Common.{arith, ◌∙◌}
 use Rattle.members.proofs.sort.+sort.Goals as goal
 
 pub next-requires : goal.next-requires
@@ -13,22 +13,15 @@ pub returns-then-n-eq1-clause-sorted : goal.returns-then-n-eq1-clause-sorted
 returns-then-n-eq1-clause-sorted t c = one_sorted _ _ _ _ _ _ c.if-n-eq1.true
 
 pub sort-a-requires : goal.sort-a-requires
-sort-a-requires t c =
-    let h = halved _ c.requires.0 c.if-n-eq1.false in
-    (omega (arith, c.decreases), (omega arith, omega arith, left_free c.args.up c.args.first c.args.n (c.args.n / 2) (omega arith) c.requires.2))
+sort-a-requires t c = (omega (arith, c.decreases), (omega arith, omega arith, left_free _ _ _ (omega arith) c.requires.2))
 
 pub sort-b-requires : goal.sort-b-requires
-sort-b-requires t c =
-    let h = halved _ c.requires.0 c.if-n-eq1.false in
-    (omega (arith, c.decreases), (omega arith, omega arith, right_free c.args.up c.args.first c.args.n (c.args.n / 2) (omega arith) c.requires.2 _ _ c.sort-a.ensures.rest c.sort-a.ensures.sorted))
+sort-b-requires t c = (omega (arith, c.decreases), (omega arith, omega arith, right_free _ _ _ (omega arith) c.requires.2 _ _ _ c.sort-a.ensures.rest c.sort-a.ensures.sorted))
 
 pub merge-requires : goal.merge-requires
-merge-requires t c =
-    let h = halved _ c.requires.0 c.if-n-eq1.false in
-    (omega arith, merge_ready c.args.up c.args.first c.args.n (c.args.n / 2) (omega arith) c.requires.2 _ _ c.sort-a.ensures.rest c.sort-a.ensures.sorted _ _ c.sort-b.ensures.rest c.sort-b.ensures.sorted)
+merge-requires t c = rw (c.sort-a.ensures.counted, c.sort-b.ensures.counted) (omega arith, merge_ready _ _ _ (omega arith) c.requires.2 _ _ _ c.sort-a.ensures.rest c.sort-a.ensures.sorted _ _ c.sort-b.ensures.rest c.sort-b.ensures.sorted)
 
 pub returns : goal.returns
 returns t c =
-    let h = halved _ c.requires.0 c.if-n-eq1.false in
-    let all = all_sorted c.args.up c.args.first c.args.n (c.args.n / 2) (omega arith) c.requires.2 _ _ c.sort-a.ensures.rest c.sort-a.ensures.sorted _ _ c.sort-b.ensures.rest c.sort-b.ensures.sorted _ c.merge.ensures.merged in
-    record { rest = all.0; sorted = all.1 }
+    let all = all_sorted _ _ _ (omega arith) c.requires.2 _ _ _ c.sort-a.ensures.rest c.sort-a.ensures.sorted _ _ c.sort-b.ensures.rest c.sort-b.ensures.sorted _ (rw (c.sort-a.ensures.counted, c.sort-b.ensures.counted) at c.merge.ensures.merged) in
+    record { counted = omega (arith, c.merge.ensures.counted, c.sort-a.ensures.counted, c.sort-b.ensures.counted); rest = all.0; sorted = all.1 }

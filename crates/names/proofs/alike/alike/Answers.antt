@@ -1,17 +1,9 @@
--- Eight at a time and then one by one, the bytes before `i` decide nothing.
-use Rattle.names.proofs.Runs.{then}
-use borrow.Author.Tests.{not-false}
-use native.Mathlib.Omega.{arith}
+-- The eights decide nothing.
+use Rattle.names.specs.Steps.{Alike}
+use Rattle.scan.proofs.Over.{over_eights}
+use Rattle.std.proofs.Common.{rules}
+use mathlib.Core.Path.{◌∙◌, refl}
 use Rattle.names.proofs.alike.alike.Goals as goal
 
 pub loop-i-init : goal.loop-i-init
-loop-i-init c = c.eights-i.ensures
-
-pub returns-then-not-same_at : goal.returns-then-not-same_at
-returns-then-not-same_at c = (omega arith, omega arith, c.loop-i.invariant.1)
-
-pub loop-i-preserved : goal.loop-i-preserved
-loop-i-preserved c = (omega arith, then c.loop-i.invariant.1 (c.same_at.ensures.alike (not-false _ c.if-not-same_at.false-raw)))
-
-pub returns : goal.returns
-returns c = (omega arith, omega arith, c.loop-i.invariant.1)
+loop-i-init c = over_eights (Alike c.args.a.now c.args.b.now 0) refl (λ j p r. r ∙ search rules) c.eights-i.ensures.passed

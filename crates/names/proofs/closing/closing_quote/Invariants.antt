@@ -1,3 +1,4 @@
+-- From `i` on the name closes where it does from `from` on.
 use Rattle.names.specs.Units.{closing}
 use lib.ListN.{drop, length}
 use mathlib.Core.Path.{◌≡◌}

@@ -2,4 +2,4 @@ use Rattle.reader.proofs.Answering.{reader}
 use Rattle.nibrocate.proofs.read.read.Goals as goal
 
 pub returns : goal.returns
-returns c = record { reader = reader c.read_text.ensures.read }
+returns c = record { reader = rw c.into.ensures (reader _ c.read_text.ensures.read) }

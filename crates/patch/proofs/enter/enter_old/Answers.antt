@@ -1,27 +1,27 @@
-use Rattle.patch.proofs.Chaining.{none_left, old_nothing, old_stands, plain_chained, stands_object}
+use Rattle.patch.proofs.Chaining.{none_left, nothing_chained, plain_chained, stands_object}
 use mathlib.Core.Path.{◌∙◌, sym}
 use Rattle.patch.proofs.enter.enter_old.Goals as goal
 
-pub returns-then-r-eq-NO_RECORD : goal.returns-then-r-eq-NO_RECORD
-returns-then-r-eq-NO_RECORD c = record { chained = (λ d v o. old_nothing o c.if-r-eq-NO_RECORD.true); kept = none_left _ _ }
-
 pub is_object-requires : goal.is_object-requires
-is_object-requires c = let (d, v, o) = c.requires in (d, v, old_stands o c.if-r-eq-NO_RECORD.false)
+is_object-requires c = let (d, v, o) = c.requires in (d, v, rw c.in-Some.is at o)
 
 pub enter-requires : goal.enter-requires
 enter-requires c =
     let (d, v, o) = c.requires in
-    let s = old_stands o c.if-r-eq-NO_RECORD.false in
+    let s = rw c.in-Some.is at o in
     (d, _, stands_object s (sym (c.is_object.ensures d v s) ∙ c.if-is_object.true))
 
-pub returns-then-is_object : goal.returns-then-is_object
-returns-then-is_object c =
-    record {
-      chained = (λ d v o.
-          let s = old_stands o c.if-r-eq-NO_RECORD.false in
-          c.enter.ensures.chained d _ (stands_object s (sym (c.is_object.ensures d v s) ∙ c.if-is_object.true)));
-      kept = c.enter.ensures.kept;
-    }
+pub returns-in-Some-clause-chained : goal.returns-in-Some-clause-chained
+returns-in-Some-clause-chained c =
+    λ d v o.
+    let s = rw c.in-Some.is at o in
+    c.enter.ensures.chained d _ (stands_object s (sym (c.is_object.ensures d v s) ∙ c.if-is_object.true))
 
-pub returns : goal.returns
-returns c = record { chained = (λ d v o. plain_chained v (sym (c.is_object.ensures d v (old_stands o c.if-r-eq-NO_RECORD.false)) ∙ c.if-is_object.false)); kept = none_left _ _ }
+pub returns-in_default-clause-chained : goal.returns-in_default-clause-chained
+returns-in_default-clause-chained c = λ d v o. plain_chained v (sym (c.is_object.ensures d v (rw c.in-Some.is at o)) ∙ c.if-is_object.false)
+
+pub returns-in_default-clause-kept : goal.returns-in_default-clause-kept
+returns-in_default-clause-kept c = rw c.in-Some.is (none_left _ _)
+
+pub returns-in_default-2-clause-chained : goal.returns-in_default-2-clause-chained
+returns-in_default-2-clause-chained c = λ d v o. nothing_chained v (rw c.in_default.is at o)

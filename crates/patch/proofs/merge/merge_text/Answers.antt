@@ -1,19 +1,20 @@
-use Rattle.patch.proofs.Answering.{accepted, merge_asks, merged, refused, refused_patch_lem}
+use Rattle.entries.specs.Entries.{Merger}
+use Rattle.patch.proofs.Answering.{accepted, merge_asks, merged}
+use Rattle.scan.proofs.Steps.{passed_on}
 use Rattle.patch.proofs.merge.merge_text.Goals as goal
 
-pub returns-then-wrong-ne0 : goal.returns-then-wrong-ne0
-returns-then-wrong-ne0 c = record { merger = refused _ c.read_text-a.ensures.read c.if-wrong-ne0.true }
+pub returns-in_err-read_text : goal.returns-in_err-read_text
+returns-in_err-read_text c = record { merger = rw (passed_on _ c.from_residual.ensures.1) (Merger.stop c.in_err-read_text.ensures.read) }
 
-pub returns-then-number-ne0 : goal.returns-then-number-ne0
-returns-then-number-ne0 c = record { merger = refused_patch_lem _ c.read_text-a.ensures.read c.if-wrong-ne0.false c.read_text-b.ensures.read c.if-number-ne0.true }
+pub returns-in_err-read_text-2 : goal.returns-in_err-read_text-2
+returns-in_err-read_text-2 c =
+    let (v, n, r) = c.in_ok-read_text.ensures.read in
+    record { merger = rw (passed_on _ c.from_residual-in_err-read_text-2.ensures.1) (Merger.stop_patch r c.in_err-read_text-2.ensures.read) }
 
 pub write_merge-requires : goal.write_merge-requires
-write_merge-requires c = merge_asks (accepted c.read_text-a.ensures.read c.if-wrong-ne0.false c.read_text-b.ensures.read c.if-number-ne0.false)
+write_merge-requires c = merge_asks (accepted c.in_ok-read_text.ensures.read c.in_ok-read_text-2.ensures.read)
 
 pub returns : goal.returns
 returns c =
-    record {
-      merger =
-          let m = c.write_merge.ensures in
-          merged (accepted c.read_text-a.ensures.read c.if-wrong-ne0.false c.read_text-b.ensures.read c.if-number-ne0.false) m.writing m.same;
-    }
+    let m = c.write_merge.ensures in
+    record { merger = merged (accepted c.in_ok-read_text.ensures.read c.in_ok-read_text-2.ensures.read) m.writing m.same }

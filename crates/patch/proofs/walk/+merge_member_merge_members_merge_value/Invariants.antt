@@ -1,6 +1,5 @@
-use Rattle.std.proofs.Common.{◌+◌, ◌-◌, ◌*◌, ◌≡◌}
-use Rattle.patch.specs.Walks.{Going, Sides}
-use Rattle.text.specs.Bytes.{Bytes}
+use Rattle.std.proofs.Common.{◌+◌, ◌-◌, ◌*◌}
+use Rattle.patch.proofs.Walking.{Walked}
 use Rattle.text.specs.Ceilings.{max_depth}
 use Rattle.patch.proofs.walk.+merge_member_merge_members_merge_value.Given as goal
 
@@ -13,10 +12,9 @@ decreases-merge_members l = 3 * (max_depth - l.depth) + 2
 abbrev pub decreases-merge_value : goal.decreases-merge_value
 decreases-merge_value l = 3 * (max_depth - l.depth)
 
-abbrev pub invariant-merge_members-loop-i : goal.invariant-merge_members-loop-i
-invariant-merge_members-loop-i l =
-    (l.olds ≡ l.initial.olds) × (l.news ≡ l.initial.news)
-    × ((c : Bytes) → Sides l.target l.patch l.initial.olds l.initial.news l.depth l.m l.a l.n l.b c → Going l.target l.patch l.initial.olds l.initial.news l.depth l.i l.x l.j l.y l.on l.initial.out l.at l.out c)
+abbrev pub invariant-merge_members-loop-a : goal.invariant-merge_members-loop-a
+invariant-merge_members-loop-a l =
+    Walked l.target l.patch l.initial.olds l.initial.news l.olds l.news l.depth l.initial.a l.initial.b l.a l.b l.on l.initial.out l.at l.out
 
-abbrev pub decreases-merge_members-loop-i : goal.decreases-merge_members-loop-i
-decreases-merge_members-loop-i l = l.i + l.j
+abbrev pub decreases-merge_members-loop-a : goal.decreases-merge_members-loop-a
+decreases-merge_members-loop-a l = l.a.count + l.b.count

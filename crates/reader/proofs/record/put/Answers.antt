@@ -2,12 +2,11 @@
 use Prim.Native.Nat.{◌*◌, ◌+◌, ◌≤◌, ℕ}
 use Rattle.reader.specs.Tokens.{put_at}
 use Rattle.text.specs.Table.{Words, record_words}
-use lib.ListN.{length, length-set, set}
+use lib.ListN.{length, set}
 use lib.Seq.{sets-eq}
 use mathlib.Core.List.{[], ◌∷◌, append_assoc}
 use mathlib.Core.Path.{◌∙◌, ◌≡◌}
 use native.Mathlib.Numerals.{towards_suc}
-use native.Mathlib.Omega.{arith}
 use Rattle.reader.proofs.record.put.Goals as goal
 
 put_is : (w : Words) (n a b c d : ℕ) → record_words * n + record_words ≤ length w
@@ -15,14 +14,5 @@ put_is : (w : Words) (n a b c d : ℕ) → record_words * n + record_words ≤ l
 unfolding put_at
 put_is w n a b c d h = simp towards_suc (sets-eq (a ∷ b ∷ c ∷ d ∷ []) w (record_words * n) h ∙ simp (towards_suc, append_assoc))
 
-pub bounds-table-p-2 : goal.bounds-table-p-2
-bounds-table-p-2 c = simp length-set (omega arith)
-
-pub bounds-table-p-3 : goal.bounds-table-p-3
-bounds-table-p-3 c = simp length-set (omega arith)
-
-pub bounds-table-p-4 : goal.bounds-table-p-4
-bounds-table-p-4 c = simp length-set (omega arith)
-
 pub returns : goal.returns
-returns c = put_is c.args.table.now c.args.n _ _ _ _ c.requires.0
+returns c = rw c.word_of.ensures (put_is c.args.table.now c.args.n _ _ _ _ c.requires.0)

@@ -1,11 +1,16 @@
-use Rattle.scan.proofs.Exponents.{exponent_down, exponent_up, exponent_zero}
+use Rattle.std.proofs.lemmas.Bool.Decides.{nat_tests}
+use Rattle.text.specs.Decimal.{exponent_of, normal, scaled}
+use native.Mathlib.Omega.{arith}
 use Rattle.scan.proofs.exponent.exponent_of.Goals as goal
 
-pub returns-then-c-eq0 : goal.returns-then-c-eq0
-returns-then-c-eq0 c = exponent_zero _ _ _ _ _ _ c.if-c-eq0.true
+pub returns-then-m-eq0 : goal.returns-then-m-eq0
+unfolding normal scaled exponent_of
+returns-then-m-eq0 c = grind (arith, nat_tests)
 
 pub returns-then-down : goal.returns-then-down
-returns-then-down c = exponent_down _ _ _ _ _ _ _ _ c.if-c-eq0.false c.zeros_of-z.ensures.0 c.if-down.true c.apart.ensures
+unfolding normal scaled exponent_of
+returns-then-down c = grind (arith, nat_tests)
 
 pub returns : goal.returns
-returns c = exponent_up _ _ _ _ _ _ _ _ c.if-c-eq0.false c.zeros_of-z.ensures.0 c.if-down.false c.apart-2.ensures
+unfolding normal scaled exponent_of
+returns c = grind (arith, nat_tests)

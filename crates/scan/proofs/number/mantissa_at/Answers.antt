@@ -1,16 +1,14 @@
-use Rattle.scan.proofs.Numbers.{digit_there, none_there, whole_asks, whole_over, whole_rest, whole_zero}
+use Rattle.scan.proofs.Numbers.{whole_over, whole_rest, whole_zero}
+use Rattle.scan.proofs.Steps.{fails, holds, passed_on}
+use mathlib.Core.Path.{refl}
 use Rattle.scan.proofs.number.mantissa_at.Goals as goal
 
-pub returns-then-n-gt-MAX_DIGITS : goal.returns-then-n-gt-MAX_DIGITS
-returns-then-n-gt-MAX_DIGITS c = record { part = whole_over _ _ _ c.requires.0 _ _ _ _ c.whole_at-r.ensures.counted c.if-n-gt-MAX_DIGITS.true }
+pub returns-in_err-whole : goal.returns-in_err-whole
+returns-in_err-whole c = record { part = rw (passed_on _ c.from_residual.ensures.1) (whole_over _ _ _ refl c.from.ensures c.requires.1 _ _ c.in_err-whole.ensures.counted) }
 
 pub returns-then-is_digit : goal.returns-then-is_digit
-returns-then-is_digit c = record { part = whole_zero c.args.text.now c.args.at _ c.requires.0 _ _ _ _ c.whole_at-r.ensures.counted c.if-n-gt-MAX_DIGITS.false (digit_there c.args.text.now c.whole_at-r.result.end _ _ c.byte_at-b.ensures c.is_digit.ensures c.if-is_digit.true) }
-
-pub point_at-requires : goal.point_at-requires
-point_at-requires c =
-    let x = whole_asks c.args.text.now c.args.at _ c.requires.0 _ _ _ c.whole_at-r.ensures.counted c.if-n-gt-MAX_DIGITS.false in
-    (x.0, c.if-n-gt-MAX_DIGITS.false, x.1, none_there c.args.text.now c.whole_at-r.result.end _ _ c.byte_at-b.ensures c.is_digit.ensures c.if-is_digit.false)
+returns-then-is_digit c = record { part = whole_zero _ _ _ refl c.from.ensures c.requires.1 _ _ c.requires.0 c.in_ok-whole.ensures.counted (rw (← c.byte_at.ensures) (holds _ _ c.is_digit.ensures c.if-is_digit.true)) }
 
 pub returns : goal.returns
-returns c = record { part = whole_rest c.args.text.now c.args.at _ c.requires.0 _ _ _ _ c.point_at.result c.whole_at-r.ensures.counted c.if-n-gt-MAX_DIGITS.false (none_there c.args.text.now c.whole_at-r.result.end _ _ c.byte_at-b.ensures c.is_digit.ensures c.if-is_digit.false) c.point_at.ensures.part }
+returns c =
+    record { part = whole_rest _ _ _ refl c.from.ensures c.requires.1 _ _ _ c.in_ok-whole.ensures.counted (rw (← c.byte_at.ensures) (fails _ _ c.is_digit.ensures c.if-is_digit.false)) c.point_at.ensures.part }

@@ -1,14 +1,17 @@
-use Rattle.scan.proofs.Exponents.{pass_early, pass_late, pass_third}
-use lib.Dec.{T}
-use mathlib.Core.Path.{subst, sym}
+use Rattle.scan.specs.Numerals.{passes}
+use Rattle.std.proofs.lemmas.Bool.Decides.{nat_tests}
+use Rattle.text.specs.Ceilings.{house}
 use native.Mathlib.Omega.{arith}
 use Rattle.scan.proofs.power.may_pass.Goals as goal
 
 pub returns-then-before-lt2 : goal.returns-then-before-lt2
-returns-then-before-lt2 c = (pass_early _ _ _ _ c.if-before-lt2.true, λ e. omega arith)
+unfolding passes house
+returns-then-before-lt2 c = (grind (arith, nat_tests), λ e. omega arith)
 
-pub returns-then-before-gt2 : goal.returns-then-before-gt2
-returns-then-before-gt2 c = (pass_late _ _ _ _ c.if-before-gt2.true, λ e. absurd (subst T (sym e) tt))
+pub returns-then-before-eq2 : goal.returns-then-before-eq2
+unfolding passes house
+returns-then-before-eq2 c = (grind (arith, nat_tests), λ e. omega arith)
 
-pub returns : goal.returns
-returns c = (pass_third _ _ _ _ _ c.if-before-lt2.false c.if-before-gt2.false c.exponent_of.ensures, λ e. omega arith)
+pub returns-else-before-eq2 : goal.returns-else-before-eq2
+unfolding passes house
+returns-else-before-eq2 c = (grind (arith, nat_tests), λ e. grind (arith, nat_tests))

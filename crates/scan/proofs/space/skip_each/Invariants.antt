@@ -1,11 +1,6 @@
 -- Only whitespace stands before `i`.
 use Rattle.scan.specs.Space.{Skipped}
-use lib.ListN.{length}
-use Prim.Native.Nat.{◌-◌}
 use Rattle.scan.proofs.space.skip_each.Given as goal
 
 abbrev pub invariant-loop-i : goal.invariant-loop-i
 invariant-loop-i l = Skipped l.text l.from l.i
-
-abbrev pub decreases-loop-i : goal.decreases-loop-i
-decreases-loop-i l = length l.text - l.i

@@ -5,7 +5,7 @@ use Prim.Native.Nat.{◌-◌}
 use Rattle.scan.proofs.string.string_at.Given as goal
 
 abbrev pub invariant-loop-i : goal.invariant-loop-i
-invariant-loop-i l = ReadTo l.text l.from l.i × NotPlain l.text l.i
+invariant-loop-i l = record { read : ReadTo l.text l.from l.i; stops : NotPlain l.text l.i }
 
 abbrev pub decreases-loop-i : goal.decreases-loop-i
 decreases-loop-i l = length l.text - l.i

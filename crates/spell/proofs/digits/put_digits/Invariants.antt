@@ -4,6 +4,3 @@ use Rattle.spell.proofs.digits.put_digits.Given as goal
 
 abbrev pub invariant-loop-i : goal.invariant-loop-i
 invariant-loop-i l = Filling l.c l.initial.out l.d l.i l.out
-
-abbrev pub decreases-loop-i : goal.decreases-loop-i
-decreases-loop-i l = l.i

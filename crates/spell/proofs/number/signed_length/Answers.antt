@@ -1,5 +1,5 @@
 use Rattle.meaning.proofs.NumberLength.{digits_most}
-use Rattle.spell.proofs.Parts.{sign_most, signed_length}
+use Rattle.spell.proofs.Parts.{sign_most}
 use Rattle.text.specs.Ceilings.{max_digits}
 use mathlib.Core.List.{[]}
 use native.Mathlib.Omega.{arith}
@@ -7,6 +7,3 @@ use Rattle.spell.proofs.number.signed_length.Goals as goal
 
 pub overflow_add-result : goal.overflow_add-result
 overflow_add-result c = omega (arith, c.sign_length.ensures, sign_most c.args.negative, c.digits_length.ensures max_digits c.requires (omega arith), digits_most max_digits c.args.c [])
-
-pub returns : goal.returns
-returns c = λ n h p. omega (arith, c.sign_length.ensures, c.digits_length.ensures n h p, signed_length c.args.negative c.args.c n)

@@ -1,25 +1,11 @@
-use native.Mathlib.Omega.{arith}
-use Rattle.writer.proofs.Opening.{writes_room}
 use Rattle.writer.proofs.Entered.{array_kept, array_ready, entering, entering_row, object_kept, object_ready}
 use Rattle.writer.proofs.enter.enter.Goals as goal
-
-pub next-end-requires : goal.next-end-requires
-next-end-requires c = (writes_room c.requires.1.2).0
-
-pub overflow_add-r : goal.overflow_add-r
-overflow_add-r c = let l = (writes_room c.requires.1.2).1 in omega arith
 
 pub order-requires : goal.order-requires
 order-requires c = entering_row c.requires.1.2 c.requires.0 _ c.next-end.ensures c.if-b-eq123.true
 
 pub returns-then-b-eq123 : goal.returns-then-b-eq123
 returns-then-b-eq123 c = record { ready = (λ d x z. object_ready z c.requires.0 _ c.next-end.ensures _ c.order.ensures.counted _ _ c.if-b-eq123.true c.order.ensures.linked); kept = object_kept c.requires.1.2 c.requires.0 _ c.next-end.ensures _ c.order.ensures.counted _ _ c.if-b-eq123.true c.order.ensures.linked }
-
-pub overflow_add-result : goal.overflow_add-result
-overflow_add-result c = let l = (writes_room c.requires.1.2).1 in omega arith
-
-pub overflow_add-r-2 : goal.overflow_add-r-2
-overflow_add-r-2 c = let l = (writes_room c.requires.1.2).1 in omega arith
 
 pub count-requires : goal.count-requires
 count-requires c = entering c.requires.1.2 c.requires.0 _ c.next-end.ensures

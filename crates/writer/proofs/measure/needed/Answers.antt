@@ -1,17 +1,8 @@
 -- What is counted and what is pending make up the whole.
-use Rattle.values.proofs.Records.{held_few, held_onward, held_room}
+use Rattle.values.proofs.Records.{held_few}
 use Rattle.writer.proofs.Weighing.{tally_end, tally_first, tally_start, tally_turn, writes_held}
 use native.Mathlib.Omega.{arith}
 use Rattle.writer.proofs.measure.needed.Goals as goal
-
-pub next-end-requires : goal.next-end-requires
-next-end-requires c = held_room (writes_held c.requires.1.2).1
-
-pub own_length-n-requires : goal.own_length-n-requires
-own_length-n-requires c = (c.requires.0, writes_held c.requires.1.2)
-
-pub overflow_add-k : goal.overflow_add-k
-overflow_add-k c = let h = (writes_held c.requires.1.2).1 in omega (arith, held_onward h, held_few h)
 
 pub loop-k-init : goal.loop-k-init
 loop-k-init c = tally_start c.requires.0 (writes_held c.requires.1.2).1 c.next-end.ensures c.own_length-n.ensures

@@ -13,9 +13,6 @@ decreases-put_entry l = 3 * (max_depth - l.depth) + 1
 abbrev pub decreases-put_value : goal.decreases-put_value
 decreases-put_value l = 3 * (max_depth - l.depth)
 
-abbrev pub invariant-put_entries-loop-i : goal.invariant-put_entries-loop-i
-invariant-put_entries-loop-i l =
-    (l.table ≡ l.initial.table) × ((c : Bytes) → Ready l.text l.initial.table l.depth l.b l.count l.head c → Going l.text l.initial.table l.depth l.b l.i l.x l.initial.out l.at l.out c)
-
-abbrev pub decreases-put_entries-loop-i : goal.decreases-put_entries-loop-i
-decreases-put_entries-loop-i l = l.i
+abbrev pub invariant-put_entries-loop-left : goal.invariant-put_entries-loop-left
+invariant-put_entries-loop-left l =
+    (l.table ≡ l.initial.table) × ((c : Bytes) → Ready l.text l.initial.table l.depth l.b l.fn.entries.count l.fn.entries.head c → Going l.text l.initial.table l.depth l.b l.left l.x l.initial.out l.at l.out c)
