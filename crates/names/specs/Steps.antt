@@ -1,5 +1,5 @@
 -- What the parts of a comparison promise.
-use Rattle.std.specs.Prelude.{ℕ, zero, suc, ◌+◌, ◌<◌, ◌≤◌, eqb, drop, get_or, length, Bool, true, not, ◌&&◌, [], ◌∷◌, ◌≡◌, Option, Some, None}
+use Rattle.std.specs.Prelude.{ℕ, ◌<◌, ◌≤◌, drop, length, [], ◌∷◌, ◌≡◌, Option, Some, None}
 use Rattle.names.specs.Order.{order}
 use Rattle.names.specs.Units.{units}
 use Rattle.names.specs.declared.unit.Unit.{Unit}
@@ -17,15 +17,3 @@ StepAt f t i (Some u) = (f (drop i t) ≡ u.code ∷ units (drop u.next t)) × (
 -- The names in `a` and `b` from `i` on stand in the same order as from `j` on.
 abbrev pub Alike : Bytes → Bytes → ℕ → ℕ → Type 0
 Alike a b i j = order (units (drop i a)) (units (drop i b)) ≡ order (units (drop j a)) (units (drop j b))
-
--- Whether a test holds at each of the `n` offsets from `i` on.
-unfoldable pub all : (ℕ → Bool) → ℕ → ℕ → Bool
-all f i zero = true
-all f i (suc n) = all f i n && f (i + n)
-
--- Two tests of the byte at an offset.
-abbrev pub equal_at : Bytes → Bytes → ℕ → Bool
-equal_at a b k = eqb (get_or a k 0) (get_or b k 0)
-
-abbrev pub other_at : Bytes → ℕ → ℕ → Bool
-other_at a x k = not (eqb (get_or a k 0) x)

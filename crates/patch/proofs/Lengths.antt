@@ -1,15 +1,17 @@
 -- What the length of a merge decides, once it is counted.
 use Prim.Native.Nat.{◌<◌, ◌≤◌, ℕ}
 use Rattle.std.specs.Prelude.{Some}
-use Rattle.entries.specs.Answer.{Writing, max_text, over, refusal, success}
+use Rattle.entries.specs.Answer.{Answer, Writing, max_text, over, success}
 use Rattle.patch.specs.Emits.{Emits, Fits, most_bytes}
+use Rattle.patch.specs.Side.{on_sides}
 use Rattle.patch.specs.Walks.{Merges}
+use Rattle.patch.specs.declared.side.Side.{Side}
 use Rattle.text.specs.Bytes.{Bytes}
 use Rattle.text.specs.Table.{Words}
-use Rattle.writer.proofs.Lengths.{too_long, too_narrow, well_written}
+use Rattle.writer.proofs.Lengths.{well_written}
 use lib.ListN.{length}
 use mathlib.Core.Bool.{Bool, false, true}
-use mathlib.Core.Path.{◌∙◌, ◌≡◌, ap, subst⁻¹}
+use mathlib.Core.Path.{◌∙◌, ◌≡◌, ap, subst, subst⁻¹}
 use native.Mathlib.Omega.{arith}
 
 -- A merge that a walk counts, which leaves `o` as it was.
@@ -18,21 +20,22 @@ module _ {t p : Bytes} {w x : Words} {o o₁ : Bytes} {n : ℕ} (f : (c : Bytes)
   count_few (c, m, k) = omega (arith, k.few, (f c m).count)
 
   module _ (c : Bytes) (m : Merges t p w x 0 (Some 0) 0 c) where
-    pub long : max_text < n → Writing c o (refusal 13 3 n) o₁
-    long l = subst⁻¹ (Writing c o (refusal 13 3 n)) (f c m).now (too_long (f c m).count o l)
+    pub turned_away : (a : Answer) → ((c : Bytes) → n ≡ length c → Writing c o₁ a o₁) → Writing c o a o₁
+    turned_away a r = subst (λ o. Writing c o a o₁) (f c m).now (r c (f c m).count)
 
-    pub narrow : n ≤ max_text → length o₁ < n → Writing c o (refusal 12 3 n) o₁
-    narrow l k = subst⁻¹ (Writing c o (refusal 12 3 n)) (f c m).now (too_narrow (f c m).count o l (omega (arith, ap length (f c m).now)))
+-- It leaves the sides too, so the same merge is written.
+module _ {t p t₁ p₁ : Side} (s : (t₁ ≡ t) × (p₁ ≡ p)) {o o₁ : Bytes} {n : ℕ}
+    (f : (c : Bytes) → on_sides Merges t p 0 (Some 0) 0 c → Emits false c o n o₁) (l : n ≤ length o₁) where
+  again : {c : Bytes} → on_sides Merges t p 0 (Some 0) 0 c → on_sides Merges t₁ p₁ 0 (Some 0) 0 c
+  again {c} m =
+      subst⁻¹ (λ t. on_sides Merges t p₁ 0 (Some 0) 0 c) s.0
+      (subst⁻¹ (λ p. on_sides Merges t p 0 (Some 0) 0 c) s.1 m)
 
-  -- The tables are as they were, so the same merge is written.
-  module _ {w₁ x₁ : Words} (s : (w₁ ≡ w) × (x₁ ≡ x)) (l : n ≤ length o₁) where
-    again : (c : Bytes) → Merges t p w x 0 (Some 0) 0 c → Merges t p w₁ x₁ 0 (Some 0) 0 c
-    again c m = let (g, h) = s in subst⁻¹ (λ w. Merges t p w x₁ 0 (Some 0) 0 c) g (subst⁻¹ (λ x. Merges t p w x 0 (Some 0) 0 c) h m)
+  pub write_asks : {on : Bool} → (c : Bytes) × on_sides Merges t p 0 (Some 0) 0 c × Fits false c o
+      → (c : Bytes) × on_sides Merges t₁ p₁ 0 (Some 0) 0 c × Fits on c o₁
+  write_asks (c, m, k) = (c, again m, record { few = k.few; room = λ _. omega (arith, (f c m).count) })
 
-    pub write_asks : {on : Bool} → (c : Bytes) × Merges t p w x 0 (Some 0) 0 c × Fits false c o → (c : Bytes) × Merges t p w₁ x₁ 0 (Some 0) 0 c × Fits on c o₁
-    write_asks (c, m, k) = (c, again c m, record { few = k.few; room = λ _. omega (arith, (f c m).count) })
-
-    pub written : {i : ℕ} {o₂ : Bytes} → ((c : Bytes) → Merges t p w₁ x₁ 0 (Some 0) 0 c → Emits true c o₁ i o₂) → n ≤ max_text
-        → (c : Bytes) → Merges t p w x 0 (Some 0) 0 c → Writing c o (success n) o₂
-    written q k c m =
-        well_written (f c m).count o k (omega (arith, ap length (f c m).now)) ((q c (again c m)).now ∙ ap (over c) (f c m).now)
+  pub written : {i : ℕ} {o₂ : Bytes} → ((c : Bytes) → on_sides Merges t₁ p₁ 0 (Some 0) 0 c → Emits true c o₁ i o₂) → n ≤ max_text
+      → (c : Bytes) → on_sides Merges t p 0 (Some 0) 0 c → Writing c o (success n) o₂
+  written q k c m =
+      well_written (f c m).count o k (omega (arith, ap length (f c m).now)) ((q c (again m)).now ∙ ap (over c) (f c m).now)

@@ -5,6 +5,8 @@ use Rattle.meaning.proofs.SideBySide.{Merged, Side, is_object}
 use Rattle.meaning.specs.Canonical.{put}
 use Rattle.meaning.specs.Meaning.{Pairs, Tree}
 use Rattle.meaning.specs.Merge.{members_of}
+use Rattle.members.specs.Chains.{siblings_of}
+use Rattle.members.specs.Links.{Laid}
 use Rattle.members.specs.Records.{max_records}
 use Rattle.members.specs.declared.chain.Chain.{Chain}
 use Rattle.std.specs.Prelude.{Option, Some}
@@ -12,15 +14,20 @@ use Rattle.patch.proofs.Emitting.{emit_as}
 use Rattle.patch.proofs.FirstBytes.{object_opened}
 use Rattle.patch.proofs.Standing.{stands_room, stands_writes}
 use Rattle.patch.specs.Emits.{Emits, Fits}
+use Rattle.patch.specs.Side.{with_words}
 use Rattle.patch.specs.Stands.{Chained, Old, Stands}
 use Rattle.patch.specs.Walks.{Merges, Sides}
+use Rattle.patch.specs.declared.side.Side as side
+use Rattle.reader.specs.Tokens.{brace}
 use Rattle.text.specs.Bytes.{Bytes}
 use Rattle.text.specs.Ceilings.{max_depth}
 use Rattle.text.specs.Table.{Words}
-use Rattle.writer.proofs.Writing.{opened_depth}
+use Rattle.writer.proofs.Entered.{cleared_object}
+use Rattle.writer.proofs.Writing.{left, opened_depth}
+use Rattle.writer.specs.Entering.{Kept}
 use mathlib.Core.Bool.{Bool, false, true, true≢false}
 use mathlib.Core.List.{[]}
-use mathlib.Core.Path.{◌∙◌, ◌≡◌, subst, subst⁻¹, sym}
+use mathlib.Core.Path.{◌∙◌, ◌≡◌, ap, ap₂, refl, subst, subst⁻¹, sym}
 
 -- A patch that is an object, with its members and the target's.
 record Opens (t p : Bytes) (w u : Words) (d : ℕ) (x : Option ℕ) (y : ℕ) (c : Bytes) : Type 0 where
@@ -74,10 +81,15 @@ module _ {t p : Bytes} {w u : Words} {d : ℕ} {x : Option ℕ} {y : ℕ} {on : 
         pub deep : d < max_depth
         deep = let v = opens g n a.1 in opened_depth (stands_writes v.new) (object_opened v.new)
 
-      module _ {w' u' : Words} {i j : Chain} (f : (e : ℕ) (v : Tree) → Old t w e x v → Chained t w' (e + 1) i.count i.head (members_of v))
-          (h : (e : ℕ) (qs : Pairs) → Stands p u y e (Tree.object qs) → Chained p u' (e + 1) j.count j.head qs) where
-        pub members_asks : (c : Bytes) × Merges t p w u d x y c × Fits on c o → (c : Bytes) × Sides t p w' u' (d + 1) i j c × Fits on c o
+      module _ {t' p' : Bytes} {w' u' : Words} {i j : Chain} (f : (e : ℕ) (v : Tree) → Old t w e x v → Chained t' w' (e + 1) i.count i.head (members_of v))
+          (h : (e : ℕ) (qs : Pairs) → Stands p u y e (Tree.object qs) → Chained p' u' (e + 1) j.count j.head qs) where
+        pub members_asks : (c : Bytes) × Merges t p w u d x y c × Fits on c o → (c : Bytes) × Sides t' p' w' u' (d + 1) i j c × Fits on c o
         members_asks (c, m, k) = let v = opens g n m in (c, Sides.sides (f d v.target v.old) (h d v.news v.new) v.side v.whole, k)
 
-        pub members_gives : {k : ℕ} {o' : Bytes} → ((c : Bytes) → Sides t p w' u' (d + 1) i j c → Emits on c o k o') → (c : Bytes) → Merges t p w u d x y c → Emits on c o k o'
+        pub members_gives : {k : ℕ} {o' : Bytes} → ((c : Bytes) → Sides t' p' w' u' (d + 1) i j c → Emits on c o k o') → (c : Bytes) → Merges t p w u d x y c → Emits on c o k o'
         members_gives q c m = let v = opens g n m in q c (Sides.sides (f d v.target v.old) (h d v.news v.new) v.side v.whole)
+
+-- A side that was entered, and left behind what left it alone, is as it was.
+pub side_left : {s e l : side.Side} {n first : ℕ} {x : Words} → Kept s.table.now e.table.now brace n first → with_words e s.table.now ≡ s → l ≡ e
+    → Laid (λ _. 0) (siblings_of l.table.now n first) l.table.now x → with_words l x ≡ s
+side_left k e f c = ap₂ with_words f (left k (ap (λ s. s.table.now) f) (cleared_object brace refl c)) ∙ e

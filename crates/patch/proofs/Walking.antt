@@ -8,7 +8,9 @@ use Rattle.members.specs.declared.chain.Chain.{Chain}
 use Rattle.patch.proofs.Emitting.{emit_as, emit_both, emit_none, fits_first, rest_fits, rest_start}
 use Rattle.patch.proofs.Going.{Next, left_end, next, onward_if}
 use Rattle.patch.specs.Emits.{Emits, Fits, end_at, mark_at, most_bytes, rest_at}
+use Rattle.patch.specs.Side.{on_side, on_sides}
 use Rattle.patch.specs.Stands.{Chained}
+use Rattle.patch.specs.declared.side.Side as side
 use Rattle.patch.specs.Turns.{Takes, turn_of}
 use Rattle.patch.specs.Walks.{Going, Sides, left}
 use Rattle.spell.proofs.Putting.{rest}
@@ -23,9 +25,9 @@ use mathlib.Core.Path.{◌∙◌, ◌≡◌, ap, ap₂, refl, subst, subst⁻¹,
 use native.Mathlib.Omega.{arith}
 
 -- The name of a chain's first member stands in the text.
-first_named : {t : Bytes} {w w' : Words} {d i x : ℕ} {ps : Pairs} → w' ≡ w → Chained t w d i x ps → 0 < i → Named t w' x
+first_named : {s s' : side.Side} {d i x : ℕ} {ps : Pairs} → s' ≡ s → on_side Chained s d i x ps → 0 < i → on_side Named s' x
 first_named e Chained.none l = absurd (omega arith)
-first_named {t} {x = x} e (Chained.more n s c) l = subst⁻¹ (λ w. Named t w x) e n
+first_named {x = x} e (Chained.more n s c) l = subst⁻¹ (λ s. on_side Named s x) e n
 
 -- Chains without members give none.
 empty_sides : {t p : Bytes} {w u : Words} {d i j x y : ℕ} {ps qs rs : Pairs} → Chained t w d i x ps → Chained p u d j y qs → Side ps qs rs → i + j ≡ 0 → rs ≡ Pairs.empty
@@ -75,31 +77,31 @@ module _ {t p : Bytes} {w u : Words} {d : ℕ} {a b : Chain} {at : ℕ} {on : Bo
       going_end : {n : ℕ} {ys : Bytes} → Emits on (end_at at) (rest k o') n ys → Emits on c o (at + n) (take k o' ++ (ys ++ drop (length o' - k) (drop k o')))
       going_end q = emit_as (sym ended) (emit_both g.emitted done_room r q)
 
--- Of the chains `a` and `b` the chains `a'` and `b'` are to come, and the tables are as they were.
-pub record Walked (t p : Bytes) (w u w' u' : Words) (d : ℕ) (a b a' b' : Chain) (on : Bool) (o : Bytes) (at : ℕ) (o' : Bytes) : Type 0 where
-  pub olds : w' ≡ w
-  pub news : u' ≡ u
-  pub going : (c : Bytes) → Sides t p w u d a b c → Going t p w u d a' b' on o at o' c
+-- Of the chains `a` and `b` the chains `a'` and `b'` are to come, and the sides are as they were.
+pub record Walked (t p t' p' : side.Side) (d : ℕ) (a b a' b' : Chain) (on : Bool) (o : Bytes) (at : ℕ) (o' : Bytes) : Type 0 where
+  pub olds : t' ≡ t
+  pub news : p' ≡ p
+  pub going : (c : Bytes) → on_sides Sides t p d a b c → on_sides Going t p d a' b' on o at o' c
 
 -- Where the walk begins, nothing is done.
-pub walk_start : (t p : Bytes) (w u : Words) (d : ℕ) (a b : Chain) (on : Bool) (o : Bytes) → Walked t p w u w u d a b a b on o 0 o
+pub walk_start : (t p : side.Side) (d : ℕ) (a b : Chain) (on : Bool) (o : Bytes) → Walked t p t p d a b a b on o 0 o
 unfolding left
-walk_start t p w u d a b on o =
+walk_start t p d a b on o =
     record { olds = refl; news = refl; going = begins }
   where
-    begins : (c : Bytes) → Sides t p w u d a b c → Going t p w u d a b on o 0 o c
+    begins : (c : Bytes) → on_sides Sides t p d a b c → on_sides Going t p d a b on o 0 o c
     begins _ (Sides.sides {ps = ps} {qs = qs} {rs = rs} a b s e) =
         record { olds = ps; news = qs; merged = rs; target = a; patch = b; side = s; done = []; whole = sym e; emitted = emit_none on o }
 
-module _ {t p : Bytes} {w u w' u' : Words} {d : ℕ} {a b a' b' : Chain} {on : Bool} {o : Bytes} {at : ℕ} {o' : Bytes} (v : Walked t p w u w' u' d a b a' b' on o at o')
-    (x : (c : Bytes) × Sides t p w u d a b c × Fits on c o) where
-  going : Going t p w u d a' b' on o at o' x.0
+module _ {t p t' p' : side.Side} {d : ℕ} {a b a' b' : Chain} {on : Bool} {o : Bytes} {at : ℕ} {o' : Bytes} (v : Walked t p t' p' d a b a' b' on o at o')
+    (x : (c : Bytes) × on_sides Sides t p d a b c × Fits on c o) where
+  going : on_sides Going t p d a' b' on o at o' x.0
   going = v.going x.0 x.1
 
   room : on ≡ true → at ≤ length o
   room = at_room going x.2
 
-  pub turn_asks : (0 < a'.count → Named t w' a'.head) × (0 < b'.count → Named p u' b'.head)
+  pub turn_asks : (0 < a'.count → on_side Named t' a'.head) × (0 < b'.count → on_side Named p' b'.head)
   turn_asks = (λ l. first_named v.olds going.target l, λ l. first_named v.news going.patch l)
 
   module _ {k : ℕ} (r : k ≡ rest_at on at) where
@@ -108,34 +110,34 @@ module _ {t p : Bytes} {w u w' u' : Words} {d : ℕ} {a b a' b' : Chain} {on : B
 
     -- A turn.
     module _ (z : Ordering) {m : ℕ} (l : 0 < a'.count + b'.count)
-        (h : ordering_index z ≡ turn_of a'.count b'.count (name_of t w' a'.head) (name_of p u' b'.head)) (i : m ≡ mark_at at) where
-      turn : {c : Bytes} (g : Going t p w u d a' b' on o at o' c) → Next t p w u d a' b' z m g.done g.merged
+        (h : ordering_index z ≡ turn_of a'.count b'.count (on_side name_of t' a'.head) (on_side name_of p' b'.head)) (i : m ≡ mark_at at) where
+      turn : {c : Bytes} (g : on_sides Going t p d a' b' on o at o' c) → on_sides Next t p d a' b' z m g.done g.merged
       turn g =
           next (i ∙ ap mark_at g.emitted.count) g.target g.patch g.side l z
-          (h ∙ ap₂ (λ w u. turn_of a'.count b'.count (name_of t w a'.head) (name_of p u b'.head)) v.olds v.news)
+          (h ∙ ap₂ (λ t p. turn_of a'.count b'.count (on_side name_of t a'.head) (on_side name_of p b'.head)) v.olds v.news)
 
-      -- The same in the tables as they are.
-      takes : {c : Bytes} (g : Going t p w u d a' b' on o at o' c) → Takes t p w' u' d a'.head b'.head z m (turn g).entry
+      -- The same in the sides as they are.
+      takes : {c : Bytes} (g : on_sides Going t p d a' b' on o at o' c) → on_sides Takes t' p' d a'.head b'.head z m (turn g).entry
       takes g =
-          subst⁻¹ (λ w. Takes t p w u' d a'.head b'.head z m (turn g).entry) v.olds
-          (subst⁻¹ (λ u. Takes t p w u d a'.head b'.head z m (turn g).entry) v.news (turn g).takes)
+          subst⁻¹ (λ t. on_sides Takes t p' d a'.head b'.head z m (turn g).entry) v.olds
+          (subst⁻¹ (λ p. on_sides Takes t p d a'.head b'.head z m (turn g).entry) v.news (turn g).takes)
 
-      pub member_asks : (e : Bytes) × Takes t p w' u' d a'.head b'.head z m e × Fits on e (rest k o')
+      pub member_asks : (e : Bytes) × on_sides Takes t' p' d a'.head b'.head z m e × Fits on e (rest k o')
       member_asks = ((turn going).entry, takes going, rest_fits going.emitted (done_room going room r) r (turn going).entry (both_fit going room r (turn going) x.2))
 
-      pub old_asks : {w'' : Words} → w'' ≡ w' → is_le z ≡ true → Room w'' a'.head × (0 < a'.count)
+      pub old_asks : {t'' : side.Side} → t'' ≡ t' → is_le z ≡ true → Room t''.table.now a'.head × (0 < a'.count)
       old_asks e f = let n = (turn going).old_left f in ((first_named (e ∙ v.olds) going.target n).0, n)
 
-      pub new_asks : {u'' : Words} → u'' ≡ u' → is_ge z ≡ true → Room u'' b'.head × (0 < b'.count)
+      pub new_asks : {p'' : side.Side} → p'' ≡ p' → is_ge z ≡ true → Room p''.table.now b'.head × (0 < b'.count)
       new_asks e f = let n = (turn going).new_left f in ((first_named (e ∙ v.news) going.patch n).0, n)
 
-      module _ {n : ℕ} {ys : Bytes} (q : (e : Bytes) → Takes t p w' u' d a'.head b'.head z m e → Emits on e (rest k o') n ys) where
+      module _ {n : ℕ} {ys : Bytes} (q : (e : Bytes) → on_sides Takes t' p' d a'.head b'.head z m e → Emits on e (rest k o') n ys) where
         pub turn_few : at + n ≤ most_bytes
         turn_few =
             omega (arith, (both_fit going room r (turn going) x.2).few, (emit_both going.emitted (done_room going room r) r (q (turn going).entry (takes going))).count)
 
-        pub walked : {w'' u'' : Words} {a'' b'' : Chain} → (w'' ≡ w') × (u'' ≡ u') → a'' ≡ onward_if (is_le z) w a' → b'' ≡ onward_if (is_ge z) u b'
-            → Walked t p w u w'' u'' d a b a'' b'' on o (at + n) (take k o' ++ (ys ++ drop (length o' - k) (drop k o')))
+        pub walked : {t'' p'' : side.Side} {a'' b'' : Chain} → (t'' ≡ t') × (p'' ≡ p') → a'' ≡ onward_if (is_le z) t.table.now a' → b'' ≡ onward_if (is_ge z) p.table.now b'
+            → Walked t p t'' p'' d a b a'' b'' on o (at + n) (take k o' ++ (ys ++ drop (length o' - k) (drop k o')))
         walked s e f =
             record {
               olds = s.0 ∙ v.olds;
@@ -149,7 +151,7 @@ module _ {t p : Bytes} {w u w' u' : Words} {d : ℕ} {a b a' b' : Chain} {on : B
       end_asks = rest_fits going.emitted (done_room going room r) r (end_at at) (subst (λ c. Fits on c o) (ended going room r l) x.2)
 
       module _ {n : ℕ} {ys : Bytes} (q : Emits on (end_at at) (rest k o') n ys) where
-        pub walk_gives : (c : Bytes) → Sides t p w u d a b c → Emits on c o (at + n) (take k o' ++ (ys ++ drop (length o' - k) (drop k o')))
+        pub walk_gives : (c : Bytes) → on_sides Sides t p d a b c → Emits on c o (at + n) (take k o' ++ (ys ++ drop (length o' - k) (drop k o')))
         walk_gives c s = going_end (v.going c s) room r l q
 
         pub walk_few : at + n ≤ most_bytes

@@ -3,8 +3,7 @@
 #![tactic(auto)]
 
 pub mod emit;
-pub mod enter;
-pub mod kind;
 pub mod merge;
+pub mod side;
 pub mod turn;
 pub mod walk;

@@ -3,8 +3,10 @@ ghost use Rattle.std.specs.Prelude.{◌<◌, ◌≡◌};
 ghost use Rattle.std.specs.Ordering.{ordering_index};
 ghost use Rattle.members.specs.Names.{Named, name_of};
 ghost use Rattle.members.specs.Records.{Room};
+ghost use Rattle.patch.specs.Side.{on_side};
 ghost use Rattle.patch.specs.Turns.{rest_of, turn_of};
 
+use crate::side::Side;
 use members::chain::Chain;
 use members::link::link;
 use members::record::word_at;
@@ -13,9 +15,9 @@ use std::cmp::Ordering;
 
 // With the members `a` of the target and `b` of the patch to come: `Less` if the target's comes next,
 // `Equal` if both have its name, `Greater` if the patch's does.
-pub fn turn(target: &[u8], olds: &[u32], a: Chain, patch: &[u8], news: &[u32], b: Chain) -> Ordering
-    requires { (0 < a.count → Named target.now olds.now a.head) × (0 < b.count → Named patch.now news.now b.head) }
-    ensures { ordering_index result ≡ turn_of a.count b.count (name_of target.now olds.now a.head) (name_of patch.now news.now b.head) }
+pub fn turn(target: &Side, a: Chain, patch: &Side, b: Chain) -> Ordering
+    requires { (0 < a.count → on_side Named target.now a.head) × (0 < b.count → on_side Named patch.now b.head) }
+    ensures { ordering_index result ≡ turn_of a.count b.count (on_side name_of target.now a.head) (on_side name_of patch.now b.head) }
 {
     if b.count == 0 {
         return Ordering::Less;
@@ -23,18 +25,18 @@ pub fn turn(target: &[u8], olds: &[u32], a: Chain, patch: &[u8], news: &[u32], b
     if a.count == 0 {
         return Ordering::Greater;
     }
-    let p = word_at(olds, a.head, 2) + 1;
-    let q = word_at(news, b.head, 2) + 1;
-    compare_from(target, p, patch, q)
+    let p = word_at(target.table, a.head, 2) + 1;
+    let q = word_at(patch.table, b.head, 2) + 1;
+    compare_from(target.text, p, patch.text, q)
 }
 
 // The chain behind the first of `c`.
-pub fn rest(table: &[u32], c: Chain) -> Chain
-    requires { Room table.now c.head × (0 < c.count) }
-    ensures { result ≡ rest_of table.now c }
+pub fn rest(side: &Side, c: Chain) -> Chain
+    requires { Room side.now.table.now c.head × (0 < c.count) }
+    ensures { result ≡ rest_of side.now.table.now c }
 {
     Chain {
-        head: link(table, c.head),
+        head: link(side.table, c.head),
         count: c.count - 1,
     }
 }

@@ -6,7 +6,7 @@ ghost use Rattle.text.specs.Table.{unnamed};
 use scan::refusal::Refusal;
 
 // Which input is refused.
-#[derive(Clone, Copy)]
+#[derive(Clone, Copy, Debug, PartialEq, Eq)]
 pub enum Input {
     First = 1,
     Second = 2,

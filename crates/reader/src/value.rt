@@ -17,7 +17,7 @@ use scan::word::word_at;
 
 // A value that is read whole, or a container that opens and holds something, with the offset where the
 // text goes on.
-#[derive(Clone, Copy)]
+#[derive(Clone, Copy, Debug, PartialEq, Eq)]
 pub enum Value {
     Whole(usize),
     Opened(usize),

@@ -5,7 +5,7 @@ use Rattle.scan.proofs.Counts.{Joined}
 use Rattle.scan.proofs.Numerals.{digit_bounds, digit_settles, first_nonzero, first_zero, fraction_mark, mark_minus, mark_plus, minus_first, no_point, no_sign, onto_settled, onto_spoilt, point_digit, point_many, sign_digit, value_first, value_minus, whole_point, zero_whole}
 use Rattle.scan.proofs.Steps.{differs, stands}
 use Rattle.scan.specs.Answers.{at}
-use Rattle.scan.specs.Numbers.{NumberAt, Refused, opens_number}
+use Rattle.scan.specs.Numbers.{NumberAt, opens_number}
 use Rattle.scan.specs.Numerals.{BehindMinus, BehindSign, DigitAt, DigitsAt, FractionAt, Onto, PartAt, Settled, Spoilt, Wanting, WholeAt, behind_decimal, behind_fraction, behind_mark, behind_point, behind_power, behind_sign, behind_whole, first}
 use Rattle.scan.specs.declared.digits.Digits.{Digits}
 use Rattle.scan.specs.declared.exponent.Mantissa.{Mantissa}
@@ -56,13 +56,6 @@ module _ (t : Bytes) (i b : ℕ) (e : b ≡ get_or t i 0) where
 
 pub tail_power : (t : Bytes) (i : ℕ) (m : Mantissa) (r : Result Written Refusal) → T (not (is_digit (get_or t i 0))) → T (is_e (get_or t i 0)) → PartAt t (behind_mark m) (i + 1) r → PartAt t (behind_fraction m) i r
 tail_power t i m r d e = onto_part t _ _ i (i + 1) r (omega arith) (fraction_mark t i (stands t i (λ z. rw z at e)) m d e)
-
--- A refusal's number is not 0.
-pub refusal_some : {k : ℕ} → Refused k → k ≡ 0 → ⊥
-refusal_some Refused.short e = omega (arith, e)
-refusal_some Refused.wrong e = omega (arith, e)
-refusal_some Refused.digits e = omega (arith, e)
-refusal_some Refused.power e = omega (arith, e)
 
 -- The digits behind the point.
 fraction_onto : (t : Bytes) (s s' : Bool → Numeral) (i j : ℕ) (d : Digits) (r : Result Digits Refusal) → i ≤ j → ((neg : Bool) → Onto t (s neg) i (s' neg) j) → FractionAt t s' j d r → FractionAt t s i d r

@@ -1,11 +1,10 @@
 -- What each byte of a string does to the answer.
 use Prim.Native.Char.{code}
 use Prim.Native.Nat.{◌*◌, ◌+◌, ◌<◌, ◌≤◌, suc, ℕ}
-use Rattle.scan.proofs.Steps.{differs, fail, fail_by, fails, holds, short, step, step_by}
+use Rattle.scan.proofs.Steps.{differs, fail, fail_by, fails, short, step, step_by}
 use Rattle.scan.specs.Answers.{Judge, at, judging, refused}
 use Rattle.scan.specs.Strings.{Ended, EscapeAt, FourAt, Goes, HexAt, Hexed, Read, Refused, Rule, four, judged}
 use Rattle.scan.specs.declared.refusal.Refusal.{Refusal}
-use Rattle.std.proofs.lemmas.Bool.{and_parts}
 use Rattle.std.specs.Prelude.{Err, Ok, Result}
 use Rattle.text.proofs.Machine.{Left, Stack, State, Use, close_move, hex_state, move, names_of, onto}
 use Rattle.text.proofs.Run.{Fault, Took, is_done}
@@ -19,7 +18,7 @@ use borrow.Author.Tests.{lt-leb}
 use lib.Dec.{T}
 use lib.ListN.{drop, get_or, length}
 use lib.Seq.{drop-cons}
-use mathlib.Core.Bool.{Bool, ◌&&◌, cond, false, not, true}
+use mathlib.Core.Bool.{Bool, cond, false, not, true}
 use mathlib.Core.List.{[], ◌++◌, ◌∷◌, append_assoc, append-nil}
 use mathlib.Core.Path.{◌∙◌, ◌≡◌, ap, fun_ext, refl, subst}
 use native.Mathlib.Numerals.{add-one}
@@ -194,10 +193,3 @@ four_read t i w x y z =
           hexed t i refl w _ 0 u us ∙ hexed t (i + 1) e₁ x _ _ u us ∙ hexed t (i + 2) e₂ y _ _ u us ∙ hexed t (i + 3) e₃ z Left.last _ u us
           ∙ ap (λ a. at t (State.chars u (a ∷ us)) (i + 4)) (omega arith);
     }
-
--- Behind `n` plain characters, which a test `x` found, one that a test `y` finds.
-pub plain_more : (t : Bytes) (i n : ℕ) {x y : Bool} → i + n < length t → y ≡ is_plain (get_or t (i + n) 0) → (x ≡ true → Read t i (i + n)) → (x && y) ≡ true → Read t i (i + suc n)
-plain_more t i n {x} {y} h e r z =
-    let (p, q) = and_parts x y z in
-    let k : i + suc n ≡ i + n + 1 = omega arith in
-    rw k (then (r p) (plain_one t (i + n) h (holds y _ e q)))

@@ -3,22 +3,15 @@ ghost use Rattle.std.specs.Prelude.{◌+◌, ◌≤◌, true, ◌≡◌, length}
 ghost use Rattle.scan.specs.Strings.{EscapeAt, FourAt, Goes, HexAt, Hexed, NotPlain, Read, ReadTo, StringAt, four};
 
 use crate::bytes::{byte_at, is_escape, is_hex, is_plain};
-use crate::eights::eights;
+use crate::eights::{eight, eights};
 use crate::refusal::Refusal;
 
 // Whether eight plain characters stand in `text` from `i` on.
-fn eight(text: &[u8], i: usize) -> bool
+fn plain_eight(text: &[u8], i: usize) -> bool
     requires { i + 8 ≤ length text.now }
     ensures read { result ≡ true → Read text.now i (i + 8) }
 {
-    is_plain(text[i])
-        & is_plain(text[i + 1])
-        & is_plain(text[i + 2])
-        & is_plain(text[i + 3])
-        & is_plain(text[i + 4])
-        & is_plain(text[i + 5])
-        & is_plain(text[i + 6])
-        & is_plain(text[i + 7])
+    eight(i, |k| is_plain(text[k]))
 }
 
 // The first offset of `text`, from `from` on, where no plain character stands.
@@ -30,7 +23,7 @@ fn plain_run(text: &[u8], from: usize) -> usize
     if !is_plain(byte_at(text, from)) {
         return from;
     }
-    for i in eights(from, text.len(), |i| eight(text, i))..text.len() {
+    for i in eights(from, text.len(), |i| plain_eight(text, i))..text.len() {
         if !is_plain(text[i]) {
             return i;
         }

@@ -1,24 +1,21 @@
 -- Strings in canonical text, character by character.
 use Prim.Native.Char.{code}
-use Prim.Native.Nat.{ℕ, zero, suc, ◌+◌, ◌-◌, ◌<◌, ◌≤◌}
+use Prim.Native.Nat.{ℕ, ◌+◌, ◌-◌, ◌<◌, ◌≤◌}
 use Rattle.meaning.proofs.Append.{unit_append}
 use Rattle.meaning.specs.Canonical.{is_bare, put_unit, put_units}
 use Rattle.names.proofs.Reading.{units_end, units_plain, units_quote}
-use Rattle.names.proofs.Runs.{eight_tests}
-use Rattle.names.specs.Steps.{all}
 use Rattle.names.specs.Units.{units}
 use Rattle.spell.proofs.Joining.{put_as}
 use Rattle.spell.proofs.Putting.{lend, lend_fits, put_byte, put_length, put_none, put_one, rest}
 use Rattle.spell.specs.Puts.{Puts}
 use Rattle.spell.specs.Scalars.{quoted}
 use Rattle.spell.specs.Strings.{Copied, Part, Plain, ending}
-use Rattle.text.proofs.Tests.{and_left, and_right, is_true, true_is}
 use Rattle.text.specs.Bytes.{Bytes}
 use borrow.Author.Tests.{ltb-false, ltb-true}
-use lib.Dec.{T, ltb}
+use lib.Dec.{ltb}
 use lib.ListN.{drop, get_or, length, length-append, length-drop, set, take}
 use lib.Seq.{drop-cons, drop-drop, length-take-le, take-add}
-use mathlib.Core.Bool.{Bool, ◌&&◌, false, false≢true, true}
+use mathlib.Core.Bool.{Bool, false, false≢true, true}
 use mathlib.Core.List.{[], ◌++◌, ◌∷◌, append_assoc}
 use mathlib.Core.Path.{◌∙◌, ◌≡◌, ap, ap₂, refl, subst, subst⁻¹, sym}
 use native.Mathlib.Omega.{arith}
@@ -75,25 +72,6 @@ module _ (t : Bytes) where
     where
       then : {c d : Bytes} → Part t i j c → Part t j k d → Part t i k (c ++ d)
       then {c} {d} x y = record { same = x.same ∙ ap (λ s. c ++ s) y.same ∙ sym (append_assoc c d (ending t k)) }
-
-  -- Eight of them, each tested.
-  abbrev bare_at : ℕ → Bool
-  bare_at k = is_bare (get_or t k 0)
-
-  all_plain : (i n : ℕ) → i + n ≤ length t → T (all bare_at i n) → Plain t i (i + n)
-  unfolding all
-  all_plain i zero h z = subst (Plain t i) (omega arith) (plain_none i (omega arith))
-  all_plain i (suc n) h z =
-      let x = all_plain i n (omega arith) (and_left (all bare_at i n) (bare_at (i + n)) z) in
-      let y = plain_one (i + n) (omega arith) (true_is _ (and_right (all bare_at i n) (bare_at (i + n)) z)) in
-      subst (Plain t i) (omega arith) (plain_then x y)
-
-  pub eight_plain : (i : ℕ) → i + 8 ≤ length t → (a b c d e f g h : Bool)
-      → a ≡ bare_at i → b ≡ bare_at (i + 1) → c ≡ bare_at (i + 2) → d ≡ bare_at (i + 3) → e ≡ bare_at (i + 4) → f ≡ bare_at (i + 5) → g ≡ bare_at (i + 6) → h ≡ bare_at (i + 7)
-      → (a && b && c && d && e && f && g && h) ≡ true → Plain t i (i + 8)
-  eight_plain i l a b c d e f g h a' b' c' d' e' f' g' h' z =
-      let y = rw (a', b', c', d', e', f', g', h') at z in
-      all_plain i 8 l (is_true (sym (eight_tests bare_at i) ∙ y))
 
   -- How long they are.
   pub part_length : {i j : ℕ} {c : Bytes} → Part t i j c → length (ending t i) ≡ length c + length (ending t j)

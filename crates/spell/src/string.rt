@@ -15,7 +15,7 @@ use crate::unit::{is_bare, put_unit, unit_length};
 use crate::word::put_word;
 use names::unit::unit_at;
 use scan::bytes::byte_at;
-use scan::eights::eights;
+use scan::eights::{eight, eights};
 
 // How many bytes of a string are looked at one by one at first: most strings are short.
 const NEAR: usize = 8;
@@ -42,18 +42,11 @@ fn plain_before(text: &[u8], from: usize, end: usize) -> usize
 }
 
 // Whether the eight bytes of `text` from `i` on are written plain.
-fn eight(text: &[u8], i: usize) -> bool
+fn plain_eight(text: &[u8], i: usize) -> bool
     requires { i + 8 ≤ length text.now }
     ensures plain { result ≡ true → Plain text.now i (i + 8) }
 {
-    bare_at(text, i)
-        & bare_at(text, i + 1)
-        & bare_at(text, i + 2)
-        & bare_at(text, i + 3)
-        & bare_at(text, i + 4)
-        & bare_at(text, i + 5)
-        & bare_at(text, i + 6)
-        & bare_at(text, i + 7)
+    eight(i, |k| bare_at(text, k))
 }
 
 // The first offset of `text`, from `from` on, whose byte is not written plain. The next byte is tested
@@ -65,7 +58,7 @@ fn bare_run(text: &[u8], from: usize) -> usize
     if from < text.len() && !bare_at(text, from) {
         return from;
     }
-    let i = eights(from, text.len(), |i| eight(text, i));
+    let i = eights(from, text.len(), |i| plain_eight(text, i));
     plain_before(text, i, text.len())
 }
 

@@ -4,3 +4,4 @@ pub mod Writes
 pub mod Entering
 pub mod Walks
 pub mod Pending
+pub mod Room

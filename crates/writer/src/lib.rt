@@ -6,4 +6,5 @@ pub mod enter;
 pub mod measure;
 pub mod name;
 pub mod put;
+pub mod room;
 pub mod write;

@@ -8,10 +8,9 @@ ghost use Rattle.writer.specs.Writes.{Writes};
 
 use crate::measure::needed;
 use crate::put::put_value;
+use crate::room::room_for;
 use reader::answer::{Input, Refused};
-use reader::limits::MAX_TEXT;
 use reader::read::read_text;
-use scan::refusal::Refusal;
 
 // Writes a text that was read to the front of `out`. The exact length is known before a byte is written, so
 // a refusal leaves the output as it is.
@@ -21,18 +20,7 @@ fn write_read(text: &[u8], table: &mut [u32], out: &mut [u8]) -> Result<u32, Ref
     ensures same { table.new ≡ table.old }
 {
     let n = needed(text, table, 0);
-    if MAX_TEXT < n {
-        return Err(Refused {
-            refusal: Refusal::LongOutput(n),
-            input: Input::Output,
-        });
-    }
-    if out.len() < n {
-        return Err(Refused {
-            refusal: Refusal::NarrowOutput(n),
-            input: Input::Output,
-        });
-    }
+    room_for(n, out)?;
     put_value(text, table, 0, 0, out);
     Ok(n as u32)
 }

@@ -1,5 +1,7 @@
 use Rattle.entries.specs.Entries.{Merger}
 use Rattle.patch.proofs.Answering.{accepted, merge_asks, merged}
+use Rattle.std.proofs.Common.{arith}
+use Rattle.std.proofs.lemmas.Grind.{common_steps}
 use Rattle.scan.proofs.Steps.{passed_on}
 use Rattle.patch.proofs.merge.merge_text.Goals as goal
 
@@ -14,7 +16,8 @@ returns-in_err-read_text-2 c =
 pub write_merge-requires : goal.write_merge-requires
 write_merge-requires c = merge_asks (accepted c.in_ok-read_text.ensures.read c.in_ok-read_text-2.ensures.read)
 
+-- The tables, given back by their sides, are as they were read.
 pub returns : goal.returns
 returns c =
-    let m = c.write_merge.ensures in
-    record { merger = merged (accepted c.in_ok-read_text.ensures.read c.in_ok-read_text-2.ensures.read) m.writing m.same }
+    let a = accepted c.in_ok-read_text.ensures.read c.in_ok-read_text-2.ensures.read in
+    record { merger = merged a c.write_merge.ensures.writing (grind (arith, common_steps), grind (arith, common_steps)) }

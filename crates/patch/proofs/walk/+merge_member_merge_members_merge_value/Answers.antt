@@ -1,14 +1,11 @@
 -- By the number of containers that may still open: a value calls on its members one level deeper, each member on its value.
-use Rattle.std.proofs.Common.{refl, ◌≡◌, ◌∙◌, arith}
+use Rattle.std.proofs.Common.{◌≡◌, ◌∙◌, arith}
 use Rattle.std.specs.Ordering.{is_le, is_ge}
 use Rattle.std.proofs.lemmas.Grind.{common_steps}
 use Rattle.patch.proofs.Going.{onward_if}
 use Rattle.patch.proofs.Walking.{end_asks, member_asks, new_asks, old_asks, rest_inside, turn_asks, turn_few, walk_few, walk_gives, walk_start, walked}
-use Rattle.patch.proofs.Opening.{deep, enter_asks, members_asks, members_gives, new_small, new_stands, old_small, plain_asks, plain_gives}
+use Rattle.patch.proofs.Opening.{deep, enter_asks, members_asks, members_gives, new_small, new_stands, old_small, plain_asks, plain_gives, side_left}
 use Rattle.patch.proofs.Taking.{keep_asks, keep_gives, name_asks, null_gives, patch_stands, value_asks, value_few, value_gives}
-use Rattle.reader.specs.Tokens.{brace}
-use Rattle.writer.proofs.Entered.{cleared_object}
-use Rattle.writer.proofs.Writing.{left}
 use Rattle.patch.proofs.walk.+merge_member_merge_members_merge_value.Goals as goal
 use Rattle.patch.proofs.walk.+merge_member_merge_members_merge_value.Goals.{merge_members-then-is_le, merge_members-else-is_le, merge_members-then-is_ge, merge_members-else-is_ge, merge_value-in-Some, merge_value-in_default}
 
@@ -40,7 +37,7 @@ merge_member-returns-clause-emitted t c =
     value_gives (cc) c.is_null.ensures c.if-is_null.false c.requires.1 c.emit_key-n.ensures.emitted c.rest_at.ensures (cc) c.merge_value.ensures.emitted
 
 pub merge_members-loop-a-init : goal.merge_members-loop-a-init
-merge_members-loop-a-init t c = walk_start _ _ _ _ _ _ _ _ _
+merge_members-loop-a-init t c = walk_start _ _ _ _ _ _ _
 
 pub merge_members-turn-z-requires : goal.merge_members-turn-z-requires
 merge_members-turn-z-requires t c = turn_asks c.loop-a.invariant c.requires.1
@@ -70,11 +67,11 @@ pub merge_members-loop-a-preserved : goal.merge_members-loop-a-preserved
 merge_members-loop-a-preserved t c =
     let v = c.loop-a.invariant in
     let r = c.merge_member-n.ensures in
-    let target : c.if-is_le.a ≡ onward_if (is_le c.turn-z.result) c.args.olds.now c.loop-a.a = elim c.if-is_le.branch [
+    let target : c.if-is_le.a ≡ onward_if (is_le c.turn-z.result) c.args.target.now.table.now c.loop-a.a = elim c.if-is_le.branch [
       | merge_members-then-is_le w ↦ grind (arith, common_steps, v.olds)
       | merge_members-else-is_le w ↦ grind (arith, common_steps)
     ] in
-    let patch : c.if-is_ge.b ≡ onward_if (is_ge c.turn-z.result) c.args.news.now c.loop-a.b = elim c.if-is_ge.branch [
+    let patch : c.if-is_ge.b ≡ onward_if (is_ge c.turn-z.result) c.args.patch.now.table.now c.loop-a.b = elim c.if-is_ge.branch [
       | merge_members-then-is_ge w ↦ grind (arith, common_steps, v.news)
       | merge_members-else-is_ge w ↦ grind (arith, common_steps)
     ] in
@@ -125,13 +122,15 @@ pub merge_value-returns : goal.merge_value-returns
 merge_value-returns t c =
     let m = c.merge_members-n.ensures in
     let kept = c.enter_old-a.ensures.kept in
+    let entered = c.enter_old-a.ensures in
+    let kept = entered.kept in
     record {
-      emitted = members_gives c.is_object.ensures c.if-not-is_object.false c.enter_old-a.ensures.chained c.enter-b.ensures.chained m.emitted;
+      emitted = members_gives c.is_object.ensures c.if-not-is_object.false entered.chained c.enter-b.ensures.chained m.emitted;
       same = (
         elim c.match-x.branch [
-          | merge_value-in-Some w ↦ w.olds-is ∙ left (rw w.in-Some.is at kept) m.same.0 (cleared_object brace refl w.clear.ensures.cleared)
-          | merge_value-in_default w ↦ w.olds-is ∙ m.same.0 ∙ rw w.in_default.is at kept
+          | merge_value-in-Some w ↦ w.target-is ∙ side_left (rw w.in-Some.is at kept) entered.same m.same.0 w.clear.ensures.cleared
+          | merge_value-in_default w ↦ w.target-is ∙ m.same.0 ∙ rw w.in_default.is at kept
         ],
-        left c.enter-b.ensures.kept m.same.1 (cleared_object brace refl c.clear-2.ensures.cleared),
+        side_left c.enter-b.ensures.kept c.enter-b.ensures.same m.same.1 c.clear-2.ensures.cleared,
       );
     }

@@ -14,7 +14,7 @@ decreases-merge_value l = 3 * (max_depth - l.depth)
 
 abbrev pub invariant-merge_members-loop-a : goal.invariant-merge_members-loop-a
 invariant-merge_members-loop-a l =
-    Walked l.target l.patch l.initial.olds l.initial.news l.olds l.news l.depth l.initial.a l.initial.b l.a l.b l.on l.initial.out l.at l.out
+    Walked l.initial.target l.initial.patch l.target l.patch l.depth l.initial.a l.initial.b l.a l.b l.on l.initial.out l.at l.out
 
 abbrev pub decreases-merge_members-loop-a : goal.decreases-merge_members-loop-a
 decreases-merge_members-loop-a l = l.a.count + l.b.count

@@ -2,7 +2,7 @@ use Rattle.meaning.specs.Canonical.{put}
 use Rattle.patch.proofs.Emitting.{emit_counted, emit_wrote}
 use Rattle.patch.proofs.Standing.{stands_short, stands_writes}
 use mathlib.Core.List.{[]}
-use Rattle.patch.proofs.emit.emit_value.Goals as goal
+use Rattle.patch.proofs.side.Side.emit_value.Goals as goal
 
 pub put_value-requires : goal.put_value-requires
 put_value-requires c = let (v, x, f) = c.requires.1 in (c.requires.0, (put v [], stands_writes x, f.room c.if-on.true))

@@ -1,6 +1,6 @@
 use Rattle.patch.proofs.Chaining.{none_left, nothing_chained, plain_chained, stands_object}
 use mathlib.Core.Path.{◌∙◌, sym}
-use Rattle.patch.proofs.enter.enter_old.Goals as goal
+use Rattle.patch.proofs.side.Side.enter_old.Goals as goal
 
 pub is_object-requires : goal.is_object-requires
 is_object-requires c = let (d, v, o) = c.requires in (d, v, rw c.in-Some.is at o)

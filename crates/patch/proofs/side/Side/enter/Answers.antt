@@ -1,5 +1,5 @@
 use Rattle.patch.proofs.Chaining.{object_chained, object_left, object_row}
-use Rattle.patch.proofs.enter.enter.Goals as goal
+use Rattle.patch.proofs.side.Side.enter.Goals as goal
 
 pub order-requires : goal.order-requires
 order-requires c = object_row c.requires.2 _ c.next.ensures
