@@ -50,5 +50,5 @@ fn put_numbered(before: &[u8], x: u32, out: &mut [u8]) -> usize
     ensures put { Puts (numbered before.now x) out.old result out.new }
 {
     let n = put_word(before, out);
-    n + put_digits(x as u64, &mut out[n..])
+    n + put_digits(u64::from(x), &mut out[n..])
 }

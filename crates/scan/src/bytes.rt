@@ -59,13 +59,6 @@ pub fn opens_number(b: u8) -> bool
     (b == b'-') | ((b'0' <= b) & (b <= b'9'))
 }
 
-// `b`, the same number in more bits.
-pub fn wide(b: u8) -> u64
-    ensures { result ≡ b }
-{
-    b as u64
-}
-
 // The byte of `text` at `i`, or 0 behind the text.
 pub fn byte_at(text: &[u8], i: usize) -> u8
     ensures { result ≡ get_or text.now i 0 }

@@ -23,10 +23,10 @@ pub slice_bounds-put_digits-start : goal.slice_bounds-put_digits-start
 slice_bounds-put_digits-start c = slice_bounds-put_digits-count c
 
 pub put_digits-requires : goal.put_digits-requires
-put_digits-requires c = digits_room c.args.x c.ranges.x (second_fits (joined c.args.before.now c.args.x c.args.out.now c.requires) c.put_word-n.ensures.put)
+put_digits-requires c = rw c.from.ensures (digits_room c.args.x c.ranges.x (second_fits (joined c.args.before.now c.args.x c.args.out.now c.requires) c.put_word-n.ensures.put))
 
 pub returns : goal.returns
-returns c = record { put = both_put (joined c.args.before.now c.args.x c.args.out.now c.requires) c.put_word-n.ensures.put (c.put_digits.ensures.put 10 (omega arith) (omega arith)) }
+returns c = record { put = both_put (joined c.args.before.now c.args.x c.args.out.now c.requires) c.put_word-n.ensures.put (rw c.from.ensures at (c.put_digits.ensures.put 10 (omega arith) (omega arith))) }
 
 pub overflow_add-result : goal.overflow_add-result
 overflow_add-result c = omega (arith, (returns c).put.count, c.requires)
