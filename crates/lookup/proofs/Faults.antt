@@ -1,6 +1,7 @@
 -- Where a pointer is malformed, byte by byte: what goes in front of a token hides no fault behind it.
 use Prim.Native.Char.{code}
 use Prim.Native.Nat.{ℕ, ◌+◌, ◌<◌, ◌≤◌}
+use Rattle.std.proofs.lemmas.Bool.{cases_lt}
 use Rattle.std.proofs.lemmas.Bool.Decides.{nat_tests}
 use Rattle.std.proofs.lemmas.Grind.{common_steps}
 use Rattle.std.proofs.lemmas.List.{drop_more, get_or-take}
@@ -17,6 +18,7 @@ use lib.ListN.{drop, drop_of_length-le, get_or, length, length-take, take}
 use lib.Seq.{take_all}
 use mathlib.Core.Bool.{Bool, ◌&&◌, ◌||◌, cond, false, true}
 use mathlib.Core.List.{List, [], ◌∷◌}
+use mathlib.Core.Logic.{inl, inr}
 use mathlib.Core.Path.{◌∙◌, ◌≡◌, ap, refl, subst, sym}
 use native.Mathlib.Numerals.{add-one}
 use native.Mathlib.Omega.{arith}
@@ -149,13 +151,13 @@ pair_past m p i h = rw (le-ltb i (length (take m p)) (omega (arith, length-take 
 
 -- The end of the pointer, and of its first `m` bytes.
 module _ (m : ℕ) (p : Bytes) (i : ℕ) where
-  pub left_end : length p ≤ i → i ≤ m → left_from m p i ≡ None
+  pub left_end : length p ≤ i → length p ≤ m → left_from m p i ≡ None
   unfolding judge left_from
-  left_end h k = rw (fault_end (take m p) i (omega (arith, length-take m p)), le-leb (length p) m (omega arith))
+  left_end h k = rw (fault_end (take m p) i (omega (arith, length-take m p)), le-leb (length p) m k)
 
-  pub left_long : i < length p → i ≡ m → left_from m p i ≡ Some i
+  pub left_long : m < length p → m ≤ i → left_from m p i ≡ Some m
   unfolding judge left_from
-  left_long h e = rw (fault_end (take m p) i (omega (arith, length-take m p)), lt-leb (length p) m (omega arith), e)
+  left_long h k = rw (fault_end (take m p) i (omega (arith, length-take m p)), lt-leb (length p) m h)
 
 -- A byte within those.
 module _ (m : ℕ) (p : Bytes) (i : ℕ) (h : i < length p) (k : i < m) where
@@ -178,9 +180,19 @@ module _ (m : ℕ) (p : Bytes) (i : ℕ) (h : i < length p) (k : i < m) where
     unfolding judge left_from
     left_bare t = rw (fault_bare (take m p) i within (rw kept e) (grind (arith, pair_kept, pair_past)))
 
-    pub left_pair : ends_pair p (i + 1) ≡ true → left_from m p i ≡ left_from m p (i + 1)
+    left_next : ends_pair p (i + 1) ≡ true → left_from m p i ≡ left_from m p (i + 1)
     unfolding judge left_from
-    left_pair t = grind (arith, within, kept, pair_kept, pair_past, pair_plain, fault_pair, fault_bare, left_long)
+    left_next t = grind (arith, within, kept, pair_kept, pair_past, pair_plain, fault_pair, fault_bare, left_long)
+
+-- A `~` and the byte behind it, which is the last of the first `m` bytes or not.
+module _ (m : ℕ) (p : Bytes) (i : ℕ) (h : i < length p) (k : i < m) (e : get_or p i 0 ≡ code "~") where
+  pub left_pair : ends_pair p (i + 1) ≡ true → left_from m p i ≡ left_from m p (i + 1 + 1)
+  left_pair t =
+      let (l, g, f) = pair_plain p (i + 1) t in
+      left_next m p i h k e t ∙ elim (cases_lt (i + 1) m) [
+        | inl n ↦ left_plain m p (i + 1) l n g f
+        | inr n ↦ left_long m p (i + 1) (omega (arith, l, k)) n ∙ sym (left_long m p (i + 1 + 1) (omega (arith, l, k)) (omega (arith, n)))
+      ]
 
 -- The whole pointer, by its first byte.
 module _ (m : ℕ) (p : Bytes) (k : 0 < m) where

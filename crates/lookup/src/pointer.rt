@@ -26,13 +26,23 @@ pub fn check(pointer: &[u8]) -> Result<(), Refusal>
     if !pointer.is_empty() && pointer[0] != b'/' {
         return Err(Refusal::Malformed(0));
     }
-    for (i, b) in pointer.iter().enumerate() {
-        if i == MAX_POINTER || *b > 127 {
+    let end = pointer.len().min(MAX_POINTER);
+    let mut i: usize = 0;
+    while i < end {
+        let b = pointer[i];
+        if b > 127 {
             return Err(Refusal::Malformed(i));
         }
-        if *b == b'~' && !ends_pair(pointer, i + 1) {
-            return Err(Refusal::Malformed(i + 1));
+        i += 1;
+        if b == b'~' {
+            if !ends_pair(pointer, i) {
+                return Err(Refusal::Malformed(i));
+            }
+            i += 1;
         }
+    }
+    if end < pointer.len() {
+        return Err(Refusal::Malformed(end));
     }
     Ok(())
 }

@@ -1,5 +1,5 @@
 // The first repeated name of an object.
-ghost use Rattle.std.specs.Prelude.{◌≤◌, ℕ, List, ◌≡◌};
+ghost use Rattle.std.specs.Prelude.{◌≤◌, ℕ, IfSome, List, ◌≡◌};
 ghost use Rattle.members.specs.Chains.{Seats, chain_of, siblings_of};
 ghost use Rattle.members.specs.Lists.{Sorted};
 ghost use Rattle.members.specs.Names.{Named, in_order, name_of};
@@ -7,6 +7,7 @@ ghost use Rattle.members.specs.Repeats.{Earliest, FirstRepeat};
 ghost use Rattle.members.specs.Rows.{Row, named};
 ghost use Rattle.members.specs.Searches.{better};
 ghost use Rattle.members.specs.Siblings.{Siblings};
+ghost use Rattle.text.specs.Table.{unnamed};
 
 use crate::chain::Chain;
 use crate::link::{clear, link};
@@ -81,6 +82,7 @@ fn earliest(text: &[u8], table: &mut [u32], first: usize, end: usize) -> Option<
 pub fn first_repeat(text: &[u8], table: &mut [u32], first: usize, end: usize) -> Option<usize>
     requires { Row text.now table.old first end }
     ensures repeated { (l : List ℕ) → Siblings table.old end first l → FirstRepeat text.now (named table.old l) result }
+    ensures small { IfSome result (λ q. q ≤ unnamed) }
     ensures same { table.new ≡ table.old }
 {
     if end <= first || end <= next(table, first) {

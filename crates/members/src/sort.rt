@@ -16,28 +16,57 @@ pub struct Half {
     pub rest: usize,
 }
 
+// A chain's head, and the sibling behind its records: two words, since a step of the recursion hands them
+// back in registers.
+#[derive(Clone, Copy)]
+struct Sorted {
+    head: usize,
+    rest: usize,
+}
+
 // The `n` siblings from `first` on become a chain in order, or if not `up` in the opposite order. Each
 // half is sorted the other way, since merging turns it round.
+fn halved(text: &[u8], table: &mut [u32], up: bool, first: usize, n: usize) -> Sorted
+    requires { (1 ≤ n) × (n ≤ max_records) × Free text.now table.old (siblings_of table.old n first) }
+    ensures rest { result.rest ≡ after (next_of table.old) n first }
+    ensures sorted { Linked (turned up (in_order text.now table.old)) table.old (siblings_of table.old n first) table.new (chain_of table.new n result.head) }
+{
+    if n == 1 {
+        return Sorted {
+            head: first,
+            rest: next(table, first),
+        };
+    }
+    let count = n / 2;
+    let a = halved(text, table, !up, first, count);
+    let b = halved(text, table, !up, a.rest, n - count);
+    let left = Chain {
+        head: a.head,
+        count,
+    };
+    let right = Chain {
+        head: b.head,
+        count: n - count,
+    };
+    Sorted {
+        head: merge(text, table, !up, left, right).head,
+        rest: b.rest,
+    }
+}
+
+// The `n` siblings from `first` on become a chain in order, or if not `up` in the opposite order.
 pub fn sort(text: &[u8], table: &mut [u32], up: bool, first: usize, n: usize) -> Half
     requires { (1 ≤ n) × (n ≤ max_records) × Free text.now table.old (siblings_of table.old n first) }
     ensures counted { result.chain.count ≡ n }
     ensures rest { result.rest ≡ after (next_of table.old) n first }
     ensures sorted { Linked (turned up (in_order text.now table.old)) table.old (siblings_of table.old n first) table.new (chain_of table.new n result.chain.head) }
 {
-    if n == 1 {
-        return Half {
-            chain: Chain {
-                head: first,
-                count: n,
-            },
-            rest: next(table, first),
-        };
-    }
-    let m = n / 2;
-    let a = sort(text, table, !up, first, m);
-    let b = sort(text, table, !up, a.rest, n - m);
+    let s = halved(text, table, up, first, n);
     Half {
-        chain: merge(text, table, !up, a.chain, b.chain),
-        rest: b.rest,
+        chain: Chain {
+            head: s.head,
+            count: n,
+        },
+        rest: s.rest,
     }
 }

@@ -1,5 +1,5 @@
 -- What the length of a merge decides, once it is counted.
-use Prim.Native.Nat.{◌<◌, ◌≤◌, ℕ}
+use Prim.Native.Nat.{◌≤◌, ℕ}
 use Rattle.std.specs.Prelude.{Some}
 use Rattle.entries.specs.Answer.{Answer, Writing, max_text, over, success}
 use Rattle.patch.specs.Emits.{Emits, Fits, most_bytes}

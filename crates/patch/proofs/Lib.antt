@@ -2,6 +2,7 @@
 pub mod Sides
 pub mod Emitting
 pub mod Standing
+pub mod Seeing
 pub mod FirstBytes
 pub mod Steps
 pub mod Chaining

@@ -12,6 +12,7 @@ use Rattle.members.specs.declared.chain.Chain.{Chain}
 use Rattle.std.specs.Prelude.{Option, Some}
 use Rattle.patch.proofs.Emitting.{emit_as}
 use Rattle.patch.proofs.FirstBytes.{object_opened}
+use Rattle.patch.proofs.Seeing.{told}
 use Rattle.patch.proofs.Standing.{stands_room, stands_writes}
 use Rattle.patch.specs.Emits.{Emits, Fits}
 use Rattle.patch.specs.Side.{with_words}
@@ -65,29 +66,30 @@ module _ {t p : Bytes} {w u : Words} {d : ℕ} {x : Option ℕ} {y : ℕ} {on : 
     pub new_small : y < max_records
     new_small = (stands_room (new_stands a).2).1
 
-  module _ {b : Bool} (g : (e : ℕ) (v : Tree) → Stands p u y e v → b ≡ is_object v) where
+  -- By a view of the patch, with the text `q` and the words `z`.
+  module _ {q : Bytes} {z : Words} (seen : (q ≡ p) × (z ≡ u)) {b : Bool} (g : (e : ℕ) (v : Tree) → Stands q z y e v → b ≡ is_object v) where
     pub plain_asks : b ≡ false → (c : Bytes) × Merges t p w u d x y c × Fits on c o → (v : Tree) × Stands p u y d v × Fits on (put v []) o
-    plain_asks n (_, m, f) = let (v, s, e) = plain g n m in (v, s, subst⁻¹ (λ c. Fits on c o) e f)
+    plain_asks n (_, m, f) = let (v, s, e) = plain (told seen g) n m in (v, s, subst⁻¹ (λ c. Fits on c o) e f)
 
     pub plain_gives : {k : ℕ} {o' : Bytes} → b ≡ false → ((v : Tree) → Stands p u y d v → Emits on (put v []) o k o') → (c : Bytes) → Merges t p w u d x y c → Emits on c o k o'
-    plain_gives n f _ m = let (v, s, e) = plain g n m in emit_as e (f v s)
+    plain_gives n f _ m = let (v, s, e) = plain (told seen g) n m in emit_as e (f v s)
 
     -- Both are entered.
     module _ (n : b ≡ true) where
       module _ (a : (c : Bytes) × Merges t p w u d x y c × Fits on c o) where
         pub enter_asks : (e : ℕ) × (qs : Pairs) × Stands p u y e (Tree.object qs)
-        enter_asks = let v = opens g n a.1 in (d, v.news, v.new)
+        enter_asks = let v = opens (told seen g) n a.1 in (d, v.news, v.new)
 
         pub deep : d < max_depth
-        deep = let v = opens g n a.1 in opened_depth (stands_writes v.new) (object_opened v.new)
+        deep = let v = opens (told seen g) n a.1 in opened_depth (stands_writes v.new) (object_opened v.new)
 
       module _ {t' p' : Bytes} {w' u' : Words} {i j : Chain} (f : (e : ℕ) (v : Tree) → Old t w e x v → Chained t' w' (e + 1) i.count i.head (members_of v))
           (h : (e : ℕ) (qs : Pairs) → Stands p u y e (Tree.object qs) → Chained p' u' (e + 1) j.count j.head qs) where
         pub members_asks : (c : Bytes) × Merges t p w u d x y c × Fits on c o → (c : Bytes) × Sides t' p' w' u' (d + 1) i j c × Fits on c o
-        members_asks (c, m, k) = let v = opens g n m in (c, Sides.sides (f d v.target v.old) (h d v.news v.new) v.side v.whole, k)
+        members_asks (c, m, k) = let v = opens (told seen g) n m in (c, Sides.sides (f d v.target v.old) (h d v.news v.new) v.side v.whole, k)
 
         pub members_gives : {k : ℕ} {o' : Bytes} → ((c : Bytes) → Sides t' p' w' u' (d + 1) i j c → Emits on c o k o') → (c : Bytes) → Merges t p w u d x y c → Emits on c o k o'
-        members_gives q c m = let v = opens g n m in q c (Sides.sides (f d v.target v.old) (h d v.news v.new) v.side v.whole)
+        members_gives q c m = let v = opens (told seen g) n m in q c (Sides.sides (f d v.target v.old) (h d v.news v.new) v.side v.whole)
 
 -- A side that was entered, and left behind what left it alone, is as it was.
 pub side_left : {s e l : side.Side} {n first : ℕ} {x : Words} → Kept s.table.now e.table.now brace n first → with_words e s.table.now ≡ s → l ≡ e

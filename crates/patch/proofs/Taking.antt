@@ -6,6 +6,7 @@ use Rattle.meaning.specs.Meaning.{Tree}
 use Rattle.meaning.specs.Merge.{is_null}
 use Rattle.members.specs.Names.{Named, name_of}
 use Rattle.patch.proofs.Emitting.{both_emit, emit_as, emit_none, first_fits, second_fits}
+use Rattle.patch.proofs.Seeing.{keyed, shown, told}
 use Rattle.patch.proofs.Standing.{stands_short}
 use Rattle.patch.specs.Emits.{Emits, Fits, most_bytes, rest_at}
 use Rattle.patch.specs.Stands.{Stands}
@@ -54,39 +55,40 @@ module _ {t p : Bytes} {w u : Words} {d x y m : ℕ} {z : Ordering} {on : Bool} 
   keep_gives i g _ (Takes.skip n s z e) = absurd (true≢false (sym i ∙ n))
   keep_gives i g _ (Takes.set n a o s z r e) = absurd (true≢false (sym i ∙ n))
 
-  module _ (n : is_lt z ≡ false) where
+  -- By a view of the patch, with the text `p'` and the words `u'`.
+  module _ (n : is_lt z ≡ false) {p' : Bytes} {u' : Words} (seen : (p' ≡ p) × (u' ≡ u)) where
     -- The patch's member has a value.
-    pub patch_stands : (e : Bytes) × Takes t p w u d x y z m e × Fits on e o → (c : ℕ) × (v : Tree) × Stands p u y c v
+    pub patch_stands : (e : Bytes) × Takes t p w u d x y z m e × Fits on e o → (c : ℕ) × (v : Tree) × Stands p' u' y c v
     patch_stands (_, Takes.keep i _ s e, f) = absurd (true≢false (sym i ∙ n))
-    patch_stands (_, Takes.skip {v = v} _ s z e, f) = (d, v, s)
-    patch_stands (_, Takes.set {v = v} _ a o s z r e, f) = (d, v, s)
+    patch_stands (_, Takes.skip {v = v} _ s z e, f) = (d, v, shown seen s)
+    patch_stands (_, Takes.set {v = v} _ a o s z r e, f) = (d, v, shown seen s)
 
-    module _ {b : Bool} (g : (c : ℕ) (v : Tree) → Stands p u y c v → b ≡ is_null v) where
+    module _ {b : Bool} (g : (c : ℕ) (v : Tree) → Stands p' u' y c v → b ≡ is_null v) where
       -- A null of the patch writes nothing.
       pub null_gives : b ≡ true → (e : Bytes) → Takes t p w u d x y z m e → Emits on e o 0 o
       null_gives f _ (Takes.keep i _ s e) = absurd (true≢false (sym i ∙ n))
       null_gives f _ (Takes.skip _ s z e) = emit_as e (emit_none on o)
-      null_gives f _ (Takes.set {v = v} _ a i s z r e) = absurd (true≢false (sym f ∙ g d v s ∙ z))
+      null_gives f _ (Takes.set {v = v} _ a i s z r e) = absurd (true≢false (sym f ∙ told seen g d v s ∙ z))
 
       -- Anything else is merged, behind its name.
       module _ (f : b ≡ false) (a : (e : Bytes) × Takes t p w u d x y z m e × Fits on e o) where
         parts : Sets t p w u d x y z m a.0
-        parts = sets n g f a.1
+        parts = sets n (told seen g) f a.1
 
         parts_fit : Fits on (key m (name_of p u y) ++ parts.text) o
         parts_fit = subst⁻¹ (λ e. Fits on e o) parts.whole a.2
 
-        pub name_asks : (length p ≤ max_text) × Named p u y × Fits on (key m (name_of p u y)) o
-        name_asks = (parts.short, parts.named, first_fits _ _ parts_fit)
+        pub name_asks : (length p' ≤ max_text) × Named p' u' y × Fits on (key m (name_of p' u' y)) o
+        name_asks = rw (seen.0, seen.1) (parts.short, parts.named, first_fits _ _ parts_fit)
 
         -- The value behind the name that was written, merged with record `r` of the target.
-        module _ {o₁ : Bytes} {l k : ℕ} {r : Option ℕ} (q : Emits on (key m (name_of p u y)) o l o₁) (i : k ≡ rest_at on l) (j : r ≡ old_of z x) where
+        module _ {o₁ : Bytes} {l k : ℕ} {r : Option ℕ} (q : Emits on (key m (name_of p' u' y)) o l o₁) (i : k ≡ rest_at on l) (j : r ≡ old_of z x) where
           pub value_asks : (c : Bytes) × Merges t p w u d r y c × Fits on c (rest k o₁)
-          value_asks = (parts.text, merges_old j parts, second_fits _ _ parts_fit q i)
+          value_asks = (parts.text, merges_old j parts, second_fits _ _ parts_fit (keyed seen y q) i)
 
           module _ {v : ℕ} {ys : Bytes} (h : (c : Bytes) → Merges t p w u d r y c → Emits on c (rest k o₁) v ys) where
             pub value_gives : (e : Bytes) → Takes t p w u d x y z m e → Emits on e o (l + v) (take k o₁ ++ (ys ++ drop (length o₁ - k) (drop k o₁)))
-            value_gives _ x = let s = sets n g f x in emit_as s.whole (both_emit _ _ parts_fit q i (h s.text (merges_old j s)))
+            value_gives _ x = let s = sets n (told seen g) f x in emit_as s.whole (both_emit _ _ parts_fit (keyed seen y q) i (h s.text (merges_old j s)))
 
             pub value_few : l + v ≤ most_bytes
             value_few = omega (arith, a.2.few, (value_gives a.0 a.1).count)

@@ -101,20 +101,25 @@ module _ {t p t' p' : side.Side} {d : ℕ} {a b a' b' : Chain} {on : Bool} {o : 
   room : on ≡ true → at ≤ length o
   room = at_room going x.2
 
-  pub turn_asks : (0 < a'.count → on_side Named t' a'.head) × (0 < b'.count → on_side Named p' b'.head)
-  turn_asks = (λ l. first_named v.olds going.target l, λ l. first_named v.news going.patch l)
+  -- By views of both sides, with the texts `t₁` and `p₁`.
+  pub turn_asks : {t₁ p₁ : Bytes} {w₁ u₁ : Words} → (t₁ ≡ t'.text.now) × (w₁ ≡ t'.table.now) → (p₁ ≡ p'.text.now) × (u₁ ≡ p'.table.now)
+      → (0 < a'.count → Named t₁ w₁ a'.head) × (0 < b'.count → Named p₁ u₁ b'.head)
+  turn_asks e f = (λ l. rw (e.0, e.1) (first_named v.olds going.target l), λ l. rw (f.0, f.1) (first_named v.news going.patch l))
 
   module _ {k : ℕ} (r : k ≡ rest_at on at) where
     pub rest_inside : k ≤ length o'
     rest_inside = rest_start going.emitted (done_room going room r) r
 
     -- A turn.
-    module _ (z : Ordering) {m : ℕ} (l : 0 < a'.count + b'.count)
-        (h : ordering_index z ≡ turn_of a'.count b'.count (on_side name_of t' a'.head) (on_side name_of p' b'.head)) (i : m ≡ mark_at at) where
+    module _ (z : Ordering) {t₁ p₁ : Bytes} {w₁ u₁ : Words} (e : (t₁ ≡ t'.text.now) × (w₁ ≡ t'.table.now)) (f : (p₁ ≡ p'.text.now) × (u₁ ≡ p'.table.now)) {m : ℕ}
+        (l : 0 < a'.count + b'.count) (h : ordering_index z ≡ turn_of a'.count b'.count (name_of t₁ w₁ a'.head) (name_of p₁ u₁ b'.head)) (i : m ≡ mark_at at) where
+      told : ordering_index z ≡ turn_of a'.count b'.count (on_side name_of t' a'.head) (on_side name_of p' b'.head)
+      told = rw (e.0, e.1, f.0, f.1) at h
+
       turn : {c : Bytes} (g : on_sides Going t p d a' b' on o at o' c) → on_sides Next t p d a' b' z m g.done g.merged
       turn g =
           next (i ∙ ap mark_at g.emitted.count) g.target g.patch g.side l z
-          (h ∙ ap₂ (λ t p. turn_of a'.count b'.count (on_side name_of t a'.head) (on_side name_of p b'.head)) v.olds v.news)
+          (told ∙ ap₂ (λ t p. turn_of a'.count b'.count (on_side name_of t a'.head) (on_side name_of p b'.head)) v.olds v.news)
 
       -- The same in the sides as they are.
       takes : {c : Bytes} (g : on_sides Going t p d a' b' on o at o' c) → on_sides Takes t' p' d a'.head b'.head z m (turn g).entry
@@ -125,11 +130,11 @@ module _ {t p t' p' : side.Side} {d : ℕ} {a b a' b' : Chain} {on : Bool} {o : 
       pub member_asks : (e : Bytes) × on_sides Takes t' p' d a'.head b'.head z m e × Fits on e (rest k o')
       member_asks = ((turn going).entry, takes going, rest_fits going.emitted (done_room going room r) r (turn going).entry (both_fit going room r (turn going) x.2))
 
-      pub old_asks : {t'' : side.Side} → t'' ≡ t' → is_le z ≡ true → Room t''.table.now a'.head × (0 < a'.count)
-      old_asks e f = let n = (turn going).old_left f in ((first_named (e ∙ v.olds) going.target n).0, n)
+      pub old_asks : {t'' : side.Side} {w' : Words} → w' ≡ t''.table.now → t'' ≡ t' → is_le z ≡ true → Room w' a'.head × (0 < a'.count)
+      old_asks s e f = let n = (turn going).old_left f in (rw s (first_named (e ∙ v.olds) going.target n).0, n)
 
-      pub new_asks : {p'' : side.Side} → p'' ≡ p' → is_ge z ≡ true → Room p''.table.now b'.head × (0 < b'.count)
-      new_asks e f = let n = (turn going).new_left f in ((first_named (e ∙ v.news) going.patch n).0, n)
+      pub new_asks : {p'' : side.Side} {u' : Words} → u' ≡ p''.table.now → p'' ≡ p' → is_ge z ≡ true → Room u' b'.head × (0 < b'.count)
+      new_asks s e f = let n = (turn going).new_left f in (rw s (first_named (e ∙ v.news) going.patch n).0, n)
 
       module _ {n : ℕ} {ys : Bytes} (q : (e : Bytes) → on_sides Takes t' p' d a'.head b'.head z m e → Emits on e (rest k o') n ys) where
         pub turn_few : at + n ≤ most_bytes

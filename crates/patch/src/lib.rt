@@ -6,4 +6,5 @@ pub mod emit;
 pub mod merge;
 pub mod side;
 pub mod turn;
+pub mod view;
 pub mod walk;

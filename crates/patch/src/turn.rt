@@ -3,10 +3,10 @@ ghost use Rattle.std.specs.Prelude.{◌<◌, ◌≡◌};
 ghost use Rattle.std.specs.Ordering.{ordering_index};
 ghost use Rattle.members.specs.Names.{Named, name_of};
 ghost use Rattle.members.specs.Records.{Room};
-ghost use Rattle.patch.specs.Side.{on_side};
+ghost use Rattle.patch.specs.Side.{on_view};
 ghost use Rattle.patch.specs.Turns.{rest_of, turn_of};
 
-use crate::side::Side;
+use crate::view::View;
 use members::chain::Chain;
 use members::link::link;
 use members::record::word_at;
@@ -15,9 +15,9 @@ use std::cmp::Ordering;
 
 // With the members `a` of the target and `b` of the patch to come: `Less` if the target's comes next,
 // `Equal` if both have its name, `Greater` if the patch's does.
-pub fn turn(target: &Side, a: Chain, patch: &Side, b: Chain) -> Ordering
-    requires { (0 < a.count → on_side Named target.now a.head) × (0 < b.count → on_side Named patch.now b.head) }
-    ensures { ordering_index result ≡ turn_of a.count b.count (on_side name_of target.now a.head) (on_side name_of patch.now b.head) }
+pub fn turn(target: View, a: Chain, patch: View, b: Chain) -> Ordering
+    requires { (0 < a.count → on_view Named target a.head) × (0 < b.count → on_view Named patch b.head) }
+    ensures { ordering_index result ≡ turn_of a.count b.count (on_view name_of target.entry a.head) (on_view name_of patch.entry b.head) }
 {
     if b.count == 0 {
         return Ordering::Less;
@@ -31,12 +31,12 @@ pub fn turn(target: &Side, a: Chain, patch: &Side, b: Chain) -> Ordering
 }
 
 // The chain behind the first of `c`.
-pub fn rest(side: &Side, c: Chain) -> Chain
-    requires { Room side.now.table.now c.head × (0 < c.count) }
-    ensures { result ≡ rest_of side.now.table.now c }
+pub fn rest(table: &[u32], c: Chain) -> Chain
+    requires { Room table.now c.head × (0 < c.count) }
+    ensures { result ≡ rest_of table.now c }
 {
     Chain {
-        head: link(side.table, c.head),
+        head: link(table, c.head),
         count: c.count - 1,
     }
 }

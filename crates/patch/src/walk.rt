@@ -26,7 +26,8 @@ fn keep_member(side: &mut Side, x: usize, mark: u8, depth: usize, on: bool, out:
     ensures emitted { (v : Tree) → on_side Stands side.old x depth v → Emits on (key mark (on_side name_of side.old x) ++ put v []) out.old result out.new }
     ensures same { side.new ≡ side.old }
 {
-    let n = side.emit_key(x, mark, on, out);
+    let seen = side.view();
+    let n = seen.emit_key(x, mark, on, out);
     n + side.emit_value(x, depth, on, &mut out[rest_at(on, n)..])
 }
 
@@ -51,10 +52,11 @@ fn merge_member(
     if z.is_lt() {
         return keep_member(target, x, mark, depth, on, out);
     }
-    if patch.is_null(y) {
+    let new = patch.view();
+    if new.is_null(y) {
         return 0;
     }
-    let n = patch.emit_key(y, mark, on, out);
+    let n = new.emit_key(y, mark, on, out);
     let old = z.is_eq().then_some(x);
     n + merge_value(target, old, patch, y, depth, on, &mut out[rest_at(on, n)..])
 }
@@ -76,15 +78,15 @@ fn merge_members(
 {
     let mut at: usize = 0;
     while 0 < a.count || 0 < b.count {
-        let z = turn(target, a, patch, b);
+        let z = turn(target.view(), a, patch.view(), b);
         let mark = mark_at(at);
         let lent = &mut out[rest_at(on, at)..];
         let n = merge_member(target, a.head, patch, b.head, z, mark, depth, on, lent);
         if z.is_le() {
-            a = rest(target, a);
+            a = rest(target.view().table, a);
         }
         if z.is_ge() {
-            b = rest(patch, b);
+            b = rest(patch.view().table, b);
         }
         at += n;
     }
@@ -107,7 +109,7 @@ pub fn merge_value(
     ensures emitted { (c : Bytes) → on_sides Merges target.old patch.old depth x y c → Emits on c out.old result out.new }
     ensures same { (target.new ≡ target.old) × (patch.new ≡ patch.old) }
 {
-    if !patch.is_object(y) {
+    if !patch.view().is_object(y) {
         return patch.emit_value(y, depth, on, out);
     }
     let a = target.enter_old(x);

@@ -23,6 +23,18 @@ pub enum Value {
     Opened(usize),
 }
 
+// Reads the number of `text` that begins at `i`.
+fn numeral_at(text: &[u8], i: usize) -> Result<usize, Refusal>
+    requires { (i < length text.now) × (opens_number (get_or text.now i 0) ≡ true) }
+    ensures read { ScalarAt text.now i result }
+{
+    let answer = number_at(text, i);
+    let Ok(w) = answer else {
+        return answer.map(|w| w.end);
+    };
+    Ok(w.end)
+}
+
 // Reads the literal, string or number of `text` that begins at `i`.
 fn scalar_at(text: &[u8], i: usize) -> Result<usize, Refusal>
     requires { (i < length text.now) × (is_space (get_or text.now i 0) ≡ false) × (get_or text.now i 0 ≡ bracket → ⊥) × (get_or text.now i 0 ≡ brace → ⊥) }
@@ -33,7 +45,7 @@ fn scalar_at(text: &[u8], i: usize) -> Result<usize, Refusal>
         return string_at(text, i + 1);
     }
     if opens_number(b) {
-        return Ok(number_at(text, i)?.end);
+        return numeral_at(text, i);
     }
     if b == b'n' {
         return word_at(text, i, b"null");

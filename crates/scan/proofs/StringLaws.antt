@@ -47,8 +47,12 @@ then x y =
       same = λ u us. rw onto_append (x.same u us ∙ y.same u (onto x.read us));
     }
 
-pub then_refused : {t : Bytes} {i j k p : ℕ} → Read t i j → Refused t State.chars j k p → (u : Use) → at t (State.chars u []) i ≡ refused k p
-then_refused x y u = x.same u [] ∙ y u (onto x.read [])
+pub then_refused : {t : Bytes} {i j k p : ℕ} → Read t i j → Refused t State.chars j k p → Refused t State.chars i k p
+then_refused x y u us = x.same u us ∙ y u (onto x.read us)
+
+-- The same of a string, of which nothing is read before.
+pub string_refused : {t : Bytes} {i j k p : ℕ} → Read t i j → Refused t State.chars j k p → (u : Use) → at t (State.chars u []) i ≡ refused k p
+string_refused x y u = then_refused x y u []
 
 -- The byte that stands at `i`.
 module _ (t : Bytes) (i : ℕ) (h : i < length t) where

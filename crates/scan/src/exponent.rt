@@ -44,18 +44,18 @@ pub fn strip(digits: u64, coefficient: u64) -> Stripped
     }
 }
 
-// The exponent, apart from its sign, of the normal form of `m` times ten to the `power`, or to minus
-// `power` if `down`.
-pub fn exponent_of(m: Mantissa, down: bool, power: u64) -> u64
-    requires { power ≤ 9999 }
-    ensures { result ≡ exponent_of (normal false m.coefficient m.digits m.fraction down power) }
+// The exponent, apart from its sign, of the normal form of `digits` digits that come to `coefficient`, the
+// last `fraction` of them behind the point, times ten to the `power`, or to minus `power` if `down`.
+pub fn exponent_of(coefficient: u64, digits: u64, fraction: u64, down: bool, power: u64) -> u64
+    requires { (digits ≤ max_digits) × (fraction ≤ max_digits) × (power ≤ 9999) }
+    ensures { result ≡ exponent_of (normal false coefficient digits fraction down power) }
 {
-    if m.coefficient == 0 {
+    if coefficient == 0 {
         return 0;
     }
-    let zeros = strip(m.digits, m.coefficient).zeros;
+    let zeros = strip(digits, coefficient).zeros;
     if down {
-        return zeros.abs_diff(power + m.fraction);
+        return zeros.abs_diff(power + fraction);
     }
-    (power + zeros).abs_diff(m.fraction)
+    (power + zeros).abs_diff(fraction)
 }

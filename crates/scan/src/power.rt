@@ -15,7 +15,9 @@ fn may_pass(m: Mantissa, down: bool, power: u64, before: u64) -> bool
     requires { power ≤ 9999 }
     ensures { (result ≡ passes m down power before) × (result ≡ true → before ≤ 2) }
 {
-    before < 2 || (before == 2 && exponent_of(m, down, power) <= MAX_POWER)
+    before < 2
+        || (before == 2
+            && exponent_of(m.coefficient, m.digits, m.fraction, down, power) <= MAX_POWER)
 }
 
 // A number that ends before `end`.

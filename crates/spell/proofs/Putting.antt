@@ -5,9 +5,11 @@ use Rattle.entries.specs.Answer.{over}
 use Rattle.spell.specs.Puts.{Puts}
 use Rattle.text.specs.Bytes.{Bytes}
 use lib.ListN.{drop, get_or, length, length-append, length-drop, set, take}
-use lib.Seq.{drop_at, drop-cons, drop-drop, drop-length, set_at, take_at, take-length}
+use lib.Seq.{drop_at, drop-cons, drop-drop, drop-length, paste-suc, set_at, take_at, take-length}
 use mathlib.Core.List.{[], ◌++◌, ◌∷◌, append_assoc, append-nil}
 use mathlib.Core.Path.{◌∙◌, ◌≡◌, ap, ap₂, refl, sym}
+use native.Mathlib.Nat.{zero-add}
+use native.Mathlib.Numerals.{add-one}
 use native.Mathlib.Omega.{arith}
 
 -- What a first step left of an output, as it is lent to the next.
@@ -21,6 +23,17 @@ put_none o = record { count = refl; now = refl }
 pub put_one : (b : ℕ) (o : Bytes) → 1 ≤ length o → Puts (b ∷ []) o 1 (set o 0 b)
 put_one b [] h = absurd (omega arith)
 put_one b (x ∷ o) h = record { count = refl; now = refl }
+
+-- A copy of `s` that has come to `j`.
+abbrev pub copied : Bytes → Bytes → ℕ → Bytes
+copied s o j = take j s ++ drop j o
+
+module _ (s o : Bytes) where
+  pub copy_more : (j : ℕ) → j < length s → j < length o → set (copied s o j) j (get_or s j 0) ≡ copied s o (j + 1)
+  copy_more j h k = rw add-one (simp zero-add at (paste-suc o 0 s j 0 (omega arith) h))
+
+  pub copy_end : {j : ℕ} {o' : Bytes} → j ≡ length s → o' ≡ copied s o j → Puts s o (length s) o'
+  copy_end e f = record { count = refl; now = f ∙ rw (e, take-length) }
 
 module _ {c o o₁ : Bytes} {n : ℕ} (p : Puts c o n o₁) (h : length c ≤ length o) where
   -- The length of an output stays.

@@ -5,6 +5,7 @@ use Rattle.std.proofs.lemmas.Grind.{common_steps}
 use Rattle.patch.proofs.Going.{onward_if}
 use Rattle.patch.proofs.Walking.{end_asks, member_asks, new_asks, old_asks, rest_inside, turn_asks, turn_few, walk_few, walk_gives, walk_start, walked}
 use Rattle.patch.proofs.Opening.{deep, enter_asks, members_asks, members_gives, new_small, new_stands, old_small, plain_asks, plain_gives, side_left}
+use Rattle.patch.proofs.Seeing.{shown}
 use Rattle.patch.proofs.Taking.{keep_asks, keep_gives, name_asks, null_gives, patch_stands, value_asks, value_few, value_gives}
 use Rattle.patch.proofs.walk.+merge_member_merge_members_merge_value.Goals as goal
 use Rattle.patch.proofs.walk.+merge_member_merge_members_merge_value.Goals.{merge_members-then-is_le, merge_members-else-is_le, merge_members-then-is_ge, merge_members-else-is_ge, merge_value-in-Some, merge_value-in_default}
@@ -16,31 +17,31 @@ pub merge_member-returns-then-is_lt-clause-emitted : goal.merge_member-returns-t
 merge_member-returns-then-is_lt-clause-emitted t c = keep_gives (cc) c.keep_member.ensures.emitted
 
 pub merge_member-is_null-requires : goal.merge_member-is_null-requires
-merge_member-is_null-requires t c = patch_stands (cc) c.requires.1
+merge_member-is_null-requires t c = patch_stands (cc) c.view-new.ensures c.requires.1
 
 pub merge_member-returns-then-is_null-clause-emitted : goal.merge_member-returns-then-is_null-clause-emitted
-merge_member-returns-then-is_null-clause-emitted t c = null_gives (cc) c.is_null.ensures c.if-is_null.true
+merge_member-returns-then-is_null-clause-emitted t c = null_gives (cc) c.view-new.ensures c.is_null.ensures c.if-is_null.true
 
 pub merge_member-emit_key-n-requires : goal.merge_member-emit_key-n-requires
-merge_member-emit_key-n-requires t c = name_asks (cc) c.is_null.ensures c.if-is_null.false c.requires.1
+merge_member-emit_key-n-requires t c = name_asks (cc) c.view-new.ensures c.is_null.ensures c.if-is_null.false c.requires.1
 
 pub merge_member-merge_value-requires : goal.merge_member-merge_value-requires
 merge_member-merge_value-requires t c =
-    (omega (arith, c.decreases), (c.requires.0, value_asks (cc) c.is_null.ensures c.if-is_null.false c.requires.1 c.emit_key-n.ensures.emitted c.rest_at.ensures (cc)))
+    (omega (arith, c.decreases), (c.requires.0, value_asks (cc) c.view-new.ensures c.is_null.ensures c.if-is_null.false c.requires.1 c.emit_key-n.ensures.emitted c.rest_at.ensures (cc)))
 
 pub merge_member-overflow_add-result : goal.merge_member-overflow_add-result
 merge_member-overflow_add-result t c =
-    omega (arith, value_few (cc) c.is_null.ensures c.if-is_null.false c.requires.1 c.emit_key-n.ensures.emitted c.rest_at.ensures (cc) c.merge_value.ensures.emitted)
+    omega (arith, value_few (cc) c.view-new.ensures c.is_null.ensures c.if-is_null.false c.requires.1 c.emit_key-n.ensures.emitted c.rest_at.ensures (cc) c.merge_value.ensures.emitted)
 
 pub merge_member-returns-clause-emitted : goal.merge_member-returns-clause-emitted
 merge_member-returns-clause-emitted t c =
-    value_gives (cc) c.is_null.ensures c.if-is_null.false c.requires.1 c.emit_key-n.ensures.emitted c.rest_at.ensures (cc) c.merge_value.ensures.emitted
+    value_gives (cc) c.view-new.ensures c.is_null.ensures c.if-is_null.false c.requires.1 c.emit_key-n.ensures.emitted c.rest_at.ensures (cc) c.merge_value.ensures.emitted
 
 pub merge_members-loop-a-init : goal.merge_members-loop-a-init
 merge_members-loop-a-init t c = walk_start _ _ _ _ _ _ _
 
 pub merge_members-turn-z-requires : goal.merge_members-turn-z-requires
-merge_members-turn-z-requires t c = turn_asks c.loop-a.invariant c.requires.1
+merge_members-turn-z-requires t c = turn_asks c.loop-a.invariant c.requires.1 c.view.ensures c.view-in-loop-a.ensures
 
 pub merge_members-slice_bounds-lent-count : goal.merge_members-slice_bounds-lent-count
 merge_members-slice_bounds-lent-count t c = rest_inside c.loop-a.invariant c.requires.1 c.rest_at.ensures
@@ -51,17 +52,17 @@ merge_members-slice_bounds-lent-start t c = merge_members-slice_bounds-lent-coun
 -- The next turn, now that its number and its mark are known.
 pub merge_members-merge_member-n-requires : goal.merge_members-merge_member-n-requires
 merge_members-merge_member-n-requires t c =
-    (omega (arith, c.decreases), (c.requires.0, member_asks c.loop-a.invariant c.requires.1 c.rest_at.ensures _ (grind arith) c.turn-z.ensures c.mark_at-mark.ensures))
+    (omega (arith, c.decreases), (c.requires.0, member_asks c.loop-a.invariant c.requires.1 c.rest_at.ensures _ c.view.ensures c.view-in-loop-a.ensures (grind arith) c.turn-z.ensures c.mark_at-mark.ensures))
 
 pub merge_members-rest-a-requires : goal.merge_members-rest-a-requires
-merge_members-rest-a-requires t c = old_asks c.loop-a.invariant c.requires.1 c.rest_at.ensures _ (grind arith) c.turn-z.ensures c.mark_at-mark.ensures c.merge_member-n.ensures.same.0 (cc)
+merge_members-rest-a-requires t c = old_asks c.loop-a.invariant c.requires.1 c.rest_at.ensures _ c.view.ensures c.view-in-loop-a.ensures (grind arith) c.turn-z.ensures c.mark_at-mark.ensures c.view-then-is_le.ensures.1 c.merge_member-n.ensures.same.0 (cc)
 
 pub merge_members-rest-b-requires : goal.merge_members-rest-b-requires
-merge_members-rest-b-requires t c = new_asks c.loop-a.invariant c.requires.1 c.rest_at.ensures _ (grind arith) c.turn-z.ensures c.mark_at-mark.ensures c.merge_member-n.ensures.same.1 (cc)
+merge_members-rest-b-requires t c = new_asks c.loop-a.invariant c.requires.1 c.rest_at.ensures _ c.view.ensures c.view-in-loop-a.ensures (grind arith) c.turn-z.ensures c.mark_at-mark.ensures c.view-then-is_ge.ensures.1 c.merge_member-n.ensures.same.1 (cc)
 
 pub merge_members-overflow_add-at : goal.merge_members-overflow_add-at
 merge_members-overflow_add-at t c =
-    omega (arith, turn_few c.loop-a.invariant c.requires.1 c.rest_at.ensures _ (grind arith) c.turn-z.ensures c.mark_at-mark.ensures c.merge_member-n.ensures.emitted)
+    omega (arith, turn_few c.loop-a.invariant c.requires.1 c.rest_at.ensures _ c.view.ensures c.view-in-loop-a.ensures (grind arith) c.turn-z.ensures c.mark_at-mark.ensures c.merge_member-n.ensures.emitted)
 
 pub merge_members-loop-a-preserved : goal.merge_members-loop-a-preserved
 merge_members-loop-a-preserved t c =
@@ -75,7 +76,7 @@ merge_members-loop-a-preserved t c =
       | merge_members-then-is_ge w ↦ grind (arith, common_steps, v.news)
       | merge_members-else-is_ge w ↦ grind (arith, common_steps)
     ] in
-    walked v c.requires.1 c.rest_at.ensures _ (grind arith) c.turn-z.ensures c.mark_at-mark.ensures r.emitted r.same target patch
+    walked v c.requires.1 c.rest_at.ensures _ c.view.ensures c.view-in-loop-a.ensures (grind arith) c.turn-z.ensures c.mark_at-mark.ensures r.emitted r.same target patch
 
 pub merge_members-slice_bounds-emit_end-count : goal.merge_members-slice_bounds-emit_end-count
 merge_members-slice_bounds-emit_end-count t c = rest_inside c.loop-a.invariant c.requires.1 c.rest_at-2.ensures
@@ -95,21 +96,21 @@ merge_members-returns t c =
     record { emitted = walk_gives v c.requires.1 c.rest_at-2.ensures (omega arith) c.emit_end.ensures.emitted; same = (v.olds, v.news) }
 
 pub merge_value-is_object-requires : goal.merge_value-is_object-requires
-merge_value-is_object-requires t c = new_stands c.requires.1
+merge_value-is_object-requires t c = let (d, v, s) = new_stands c.requires.1 in (d, v, shown c.view.ensures s)
 
 pub merge_value-emit_value-requires : goal.merge_value-emit_value-requires
-merge_value-emit_value-requires t c = (c.requires.0, plain_asks c.is_object.ensures c.if-not-is_object.true c.requires.1)
+merge_value-emit_value-requires t c = (c.requires.0, plain_asks c.view.ensures c.is_object.ensures c.if-not-is_object.true c.requires.1)
 
 pub merge_value-returns-then-not-is_object-clause-emitted : goal.merge_value-returns-then-not-is_object-clause-emitted
-merge_value-returns-then-not-is_object-clause-emitted t c = plain_gives c.is_object.ensures c.if-not-is_object.true c.emit_value.ensures.emitted
+merge_value-returns-then-not-is_object-clause-emitted t c = plain_gives c.view.ensures c.is_object.ensures c.if-not-is_object.true c.emit_value.ensures.emitted
 
 pub merge_value-enter-b-requires : goal.merge_value-enter-b-requires
-merge_value-enter-b-requires t c = enter_asks c.is_object.ensures c.if-not-is_object.false c.requires.1
+merge_value-enter-b-requires t c = enter_asks c.view.ensures c.is_object.ensures c.if-not-is_object.false c.requires.1
 
 pub merge_value-merge_members-n-requires : goal.merge_value-merge_members-n-requires
 merge_value-merge_members-n-requires t c =
-    let d = deep c.is_object.ensures c.if-not-is_object.false c.requires.1 in
-    let m = members_asks c.is_object.ensures c.if-not-is_object.false c.enter_old-a.ensures.chained c.enter-b.ensures.chained c.requires.1 in
+    let d = deep c.view.ensures c.is_object.ensures c.if-not-is_object.false c.requires.1 in
+    let m = members_asks c.view.ensures c.is_object.ensures c.if-not-is_object.false c.enter_old-a.ensures.chained c.enter-b.ensures.chained c.requires.1 in
     (omega (arith, c.decreases, d), (omega (arith, d), m))
 
 pub merge_value-overflow_add-x : goal.merge_value-overflow_add-x
@@ -125,7 +126,7 @@ merge_value-returns t c =
     let entered = c.enter_old-a.ensures in
     let kept = entered.kept in
     record {
-      emitted = members_gives c.is_object.ensures c.if-not-is_object.false entered.chained c.enter-b.ensures.chained m.emitted;
+      emitted = members_gives c.view.ensures c.is_object.ensures c.if-not-is_object.false entered.chained c.enter-b.ensures.chained m.emitted;
       same = (
         elim c.match-x.branch [
           | merge_value-in-Some w ↦ w.target-is ∙ side_left (rw w.in-Some.is at kept) entered.same m.same.0 w.clear.ensures.cleared

@@ -10,10 +10,10 @@ use Rattle.reader.proofs.read.read_text.Goals.{In-Some, In_default}
 
 -- A name stands twice, or none does.
 repeated : (c : In-Some) → Settled c.args.text.now c.args.table.now c.settle-first.new.table c.fill-s.result.count (Some c.in-Some.q) c.fill-s.result.refusal
-repeated c = rw c.in-Some.is at (c.settle-first.ensures.settled _ c.fill-s.ensures.stopped (omega arith))
+repeated c = rw c.in-Some.is at (c.settle-first.ensures.settled _ _ c.fill-s.ensures.stopped (omega arith))
 
 distinct : (c : In_default) → Settled c.args.text.now c.args.table.now c.settle-first.new.table c.fill-s.result.count None c.fill-s.result.refusal
-distinct c = rw c.in_default.is at (c.settle-first.ensures.settled _ c.fill-s.ensures.stopped (omega arith))
+distinct c = rw c.in_default.is at (c.settle-first.ensures.settled _ _ c.fill-s.ensures.stopped (omega arith))
 
 pub returns-then-text-gt-MAX_TEXT : goal.returns-then-text-gt-MAX_TEXT
 returns-then-text-gt-MAX_TEXT c = record { read = Reading.long c.if-text-gt-MAX_TEXT.true }

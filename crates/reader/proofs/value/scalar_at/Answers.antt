@@ -1,12 +1,9 @@
-use Rattle.reader.proofs.Tokens.{false_scalar, no_scalar, null_scalar, number_scalar, string_scalar, true_scalar}
+use Rattle.reader.proofs.Tokens.{false_scalar, no_scalar, null_scalar, string_scalar, true_scalar}
 use Rattle.scan.proofs.Steps.{fails}
 use Rattle.reader.proofs.value.scalar_at.Goals as goal
 
 pub returns-then-b-eq34 : goal.returns-then-b-eq34
 returns-then-b-eq34 c = record { read = string_scalar _ c.requires.0 _ c.if-b-eq34.true c.string_at.ensures.read }
-
-pub returns-then-opens_number : goal.returns-then-opens_number
-returns-then-opens_number c = record { read = number_scalar c.in_ok-number_at.ensures.read }
 
 pub returns-then-b-eq110 : goal.returns-then-b-eq110
 returns-then-b-eq110 c = record { read = null_scalar _ c.requires.0 _ c.if-b-eq110.true c.word_at.ensures.read }

@@ -1,6 +1,6 @@
 -- Everything before `i` is read and no plain character stands there, so the byte at `i` decides: quote, escape or refusal.
 use Rattle.scan.proofs.Steps.{passed_on}
-use Rattle.scan.proofs.StringLaws.{then, then_refused, slash_read, slash_refused, quote_ends, low_refused, high_refused, chars_short}
+use Rattle.scan.proofs.StringLaws.{then, string_refused, slash_read, slash_refused, quote_ends, low_refused, high_refused, chars_short}
 use native.Mathlib.Omega.{arith}
 use mathlib.Core.Path.{refl}
 use Rattle.scan.proofs.string.string_at.Goals as goal
@@ -11,7 +11,7 @@ returns-in-34 c = record { read = (omega arith, omega arith, (_, refl, quote_end
 pub returns-in_err-escape_at-in-92 : goal.returns-in_err-escape_at-in-92
 returns-in_err-escape_at-in-92 c =
     rw (passed_on _ c.from_residual.ensures.1)
-    record { read = then_refused c.loop-i.invariant.read.2 (slash_refused _ _ c.loop-i-test.true c.in-92.is c.in_err-escape_at-in-92.ensures.read) }
+    record { read = string_refused c.loop-i.invariant.read.2 (slash_refused _ _ c.loop-i-test.true c.in-92.is c.in_err-escape_at-in-92.ensures.read) }
 
 pub loop-i-preserved : goal.loop-i-preserved
 loop-i-preserved c =
@@ -26,12 +26,12 @@ loop-i-preserved c =
 pub returns-in-0-to-127 : goal.returns-in-0-to-127
 returns-in-0-to-127 c =
     let l = c.loop-i.invariant in
-    record { read = then_refused l.read.2 (low_refused _ _ c.loop-i-test.true (l.stops c.loop-i-test.true) (omega arith) (omega arith) (omega arith)) }
+    record { read = string_refused l.read.2 (low_refused _ _ c.loop-i-test.true (l.stops c.loop-i-test.true) (omega arith) (omega arith) (omega arith)) }
 
 pub returns-in_default : goal.returns-in_default
 returns-in_default c =
     let l = c.loop-i.invariant in
-    record { read = then_refused l.read.2 (high_refused _ _ c.loop-i-test.true (l.stops c.loop-i-test.true) (omega arith) (omega (arith, c.type_inv.text c.loop-i.i))) }
+    record { read = string_refused l.read.2 (high_refused _ _ c.loop-i-test.true (l.stops c.loop-i-test.true) (omega arith) (omega (arith, c.type_inv.text c.loop-i.i))) }
 
 pub returns : goal.returns
-returns c = record { read = then_refused c.loop-i.invariant.read.2 (chars_short _ _ c.loop-i-test.false) }
+returns c = record { read = string_refused c.loop-i.invariant.read.2 (chars_short _ _ c.loop-i-test.false) }
