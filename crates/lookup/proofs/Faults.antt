@@ -180,16 +180,16 @@ module _ (m : ℕ) (p : Bytes) (i : ℕ) (h : i < length p) (k : i < m) where
     unfolding judge left_from
     left_bare t = rw (fault_bare (take m p) i within (rw kept e) (grind (arith, pair_kept, pair_past)))
 
-    left_next : ends_pair p (i + 1) ≡ true → left_from m p i ≡ left_from m p (i + 1)
+    pub left_pair : ends_pair p (i + 1) ≡ true → left_from m p i ≡ left_from m p (i + 1)
     unfolding judge left_from
-    left_next t = grind (arith, within, kept, pair_kept, pair_past, pair_plain, fault_pair, fault_bare, left_long)
+    left_pair t = grind (arith, within, kept, pair_kept, pair_past, pair_plain, fault_pair, fault_bare, left_long)
 
--- A `~` and the byte behind it, which is the last of the first `m` bytes or not.
+-- Over both, where the byte behind the `~` is the last of the first `m` bytes or not.
 module _ (m : ℕ) (p : Bytes) (i : ℕ) (h : i < length p) (k : i < m) (e : get_or p i 0 ≡ code "~") where
-  pub left_pair : ends_pair p (i + 1) ≡ true → left_from m p i ≡ left_from m p (i + 1 + 1)
-  left_pair t =
+  pub left_over : ends_pair p (i + 1) ≡ true → left_from m p i ≡ left_from m p (i + 1 + 1)
+  left_over t =
       let (l, g, f) = pair_plain p (i + 1) t in
-      left_next m p i h k e t ∙ elim (cases_lt (i + 1) m) [
+      left_pair m p i h k e t ∙ elim (cases_lt (i + 1) m) [
         | inl n ↦ left_plain m p (i + 1) l n g f
         | inr n ↦ left_long m p (i + 1) (omega (arith, l, k)) n ∙ sym (left_long m p (i + 1 + 1) (omega (arith, l, k)) (omega (arith, n)))
       ]
@@ -228,4 +228,4 @@ module _ (p : Bytes) where
   bad e = checked_bad (pointer_checked p) e
 
 -- What the loop over the bytes cites.
-pub ruleset faults = (left_other, left_whole, left_high, left_bare, left_plain, left_pair, left_long, left_end, well, bad)
+pub ruleset faults = (left_other, left_whole, left_high, left_bare, left_plain, left_over, left_long, left_end, well, bad)
