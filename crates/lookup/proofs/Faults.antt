@@ -184,7 +184,7 @@ module _ (m : ℕ) (p : Bytes) (i : ℕ) (h : i < length p) (k : i < m) where
     unfolding judge left_from
     left_pair t = grind (arith, within, kept, pair_kept, pair_past, pair_plain, fault_pair, fault_bare, left_long)
 
--- Over both, where the byte behind the `~` is the last of the first `m` bytes or not.
+-- A `~` and the byte behind it, at once: the `~` may be the last of the first `m` bytes.
 module _ (m : ℕ) (p : Bytes) (i : ℕ) (h : i < length p) (k : i < m) (e : get_or p i 0 ≡ code "~") where
   pub left_over : ends_pair p (i + 1) ≡ true → left_from m p i ≡ left_from m p (i + 1 + 1)
   left_over t =
